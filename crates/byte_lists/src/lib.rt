@@ -1,0 +1,2 @@
+//! Words and laws on lists of bytes, for the crates above. There is no code here.
+#![tactic(auto)]
