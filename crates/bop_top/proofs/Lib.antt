@@ -1,0 +1,3 @@
+pub mod Requests
+pub mod Running
+pub mod Finish

@@ -1,0 +1,54 @@
+-- What the top call promises: a row for each status.
+use Rattle.std.specs.Prelude.{◌≡◌, ℕ, ℤ, List, [], Option, Some}
+use Rattle.byte_lists.specs.Prefix.{IsPrefix}
+use Rattle.bop_ends.specs.Ends.{Rose, IsFront}
+use Rattle.rv_code.specs.declared.program.Program.{Program}
+use Rattle.rv_code.specs.declared.stop.Stop.TheVariants.{Exit}
+use Rattle.rv_code.specs.State.{Machine, stop_of, output_of}
+use Rattle.rv_code.specs.Run.{seq}
+use Rattle.low_link.specs.Form.{IsForm}
+use Rattle.low_link.specs.Code.{IsProgramOf}
+use Rattle.bop_top.specs.declared.status.Status.{Status}
+use Rattle.bop_top.specs.declared.status.Status.TheVariants.{Done, BadWords, LoadFault, WriteFault, OutOfMemory, NotYetBuilt}
+use Rattle.bop_top.specs.declared.top.TheConstants.{BUDGET, MOST_BYTES}
+
+-- P holds of the text that is loaded: the first bytes of the file
+abbrev pub OfText : Option (List ℕ) → (List ℕ → Type 0) → Type 0
+OfText file P = (text : List ℕ) × IsFront file MOST_BYTES text × P text
+
+-- P holds of the machine that has run the text's program for as many steps as the budget has
+abbrev pub Ran : List ℕ → (Machine → Type 0) → Type 0
+Ran text P = (program : Program) × IsProgramOf text program × P (seq program [] BUDGET)
+
+-- the machine has exited with this value, and these are all the bytes that it has put out
+pub record Exited (m : Machine) (exit : ℤ) (w : List ℕ) : Type 0 where
+  pub stops : stop_of m ≡ Some (Exit exit)
+  pub whole : w ≡ output_of m
+
+-- no text that compiles yet
+abbrev pub IsNotBuilt : List ℕ → Type 0
+IsNotBuilt text = (characters : List ℕ) (exit : ℤ) → IsForm text characters exit → ⊥
+
+-- what a status says of the program's file and of the bytes written
+abbrev pub Says : Status → Option (List ℕ) → List ℕ → Type 0
+Says (Done exit) file w = OfText file (λ text. Ran text (λ m. Exited m exit w) × IsForm text w exit)
+Says WriteFault file w = OfText file (λ text. Ran text (λ m. IsPrefix w (output_of m)))
+Says NotYetBuilt file w = OfText file IsNotBuilt × (w ≡ [])
+Says LoadFault file w = w ≡ []
+Says OutOfMemory file w = w ≡ []
+Says BadWords file w = ⊥
+
+-- how often each end has failed
+pub record Faults : Type 0 where
+  pub shelf : ℕ
+  pub output : ℕ
+  pub report : ℕ
+
+-- what a status says of the faults before the call and after it: the one that it names rose, and the others stand
+abbrev pub Counts : Status → Faults → Faults → Type 0
+Counts LoadFault old new = Rose old.shelf new.shelf × (new ≡ record old { shelf = new.shelf })
+Counts WriteFault old new = Rose old.output new.output × (new ≡ record old { output = new.output })
+Counts (Done exit) old new = new ≡ old
+Counts NotYetBuilt old new = new ≡ old
+Counts OutOfMemory old new = new ≡ old
+Counts BadWords old new = new ≡ old

@@ -1,0 +1,5 @@
+pub mod Codes
+pub mod Headline
+pub mod Machine
+pub mod Moved
+pub mod Words

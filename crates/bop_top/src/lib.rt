@@ -1,0 +1,12 @@
+//! The call that the program makes: what its words ask for is done over the ends that it is handed.
+#![tactic(auto)]
+
+mod machine;
+mod piece;
+mod run;
+mod status;
+mod top;
+mod words;
+
+pub use status::Status;
+pub use top::bop_main;

@@ -1,0 +1,36 @@
+// How a command has ended.
+ghost use Rattle.std.specs.Prelude.{◌≡◌};
+ghost use Rattle.bop_top.specs.Codes.{code_of};
+
+/// How a command has ended.
+#[derive(Clone, Copy, Debug, PartialEq, Eq)]
+pub enum Status {
+    /// The program has exited with this value.
+    Done(i32),
+    /// The words ask for nothing that `bop` does.
+    BadWords,
+    /// The program's file could not be loaded.
+    LoadFault,
+    /// The output could not be written.
+    WriteFault,
+    /// There was no memory.
+    OutOfMemory,
+    /// `bop` doesn't know this kind of text yet.
+    NotYetBuilt,
+}
+
+impl Status {
+    /// The status with which the process ends.
+    pub fn code(&self) -> u8
+        ensures { result ≡ code_of self.now }
+    {
+        match self {
+            Status::Done(_) => 0,
+            Status::BadWords => 2,
+            Status::LoadFault => 3,
+            Status::WriteFault => 14,
+            Status::OutOfMemory => 18,
+            Status::NotYetBuilt => 19,
+        }
+    }
+}

@@ -1,0 +1,6 @@
+pub mod Codes
+pub mod Constants
+pub mod Ends
+pub mod Forms
+pub mod Puts
+pub mod Simulation

@@ -1,0 +1,4 @@
+pub mod Form
+pub mod Code
+pub mod Reading
+pub mod Laws

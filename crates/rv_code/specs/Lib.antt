@@ -1,0 +1,5 @@
+pub mod Table
+pub mod State
+pub mod Step
+pub mod Run
+pub mod Laws

@@ -1,0 +1,64 @@
+//! The machine: its instructions and their words, its memory map, and how it stops.
+//!
+//! `specs/` has the definition of the machine itself: its state, its step, its run.
+#![tactic(auto)]
+
+mod code;
+mod instr;
+mod laws;
+mod map;
+mod program;
+mod stop;
+
+pub use code::{decode, encode};
+pub use instr::Instr;
+pub use laws::laws_of_runs;
+pub use map::{A0, A7, CODE_FROM, CODE_WORDS, MEMORY_BYTES};
+pub use program::{Bytes, Program, Words};
+pub use stop::{Stop, Trap};
+
+#[cfg(test)]
+mod tests {
+    use super::*;
+
+    // Words of the assembler's listings: `addi x1, x0, 5`, `lui x5, 0x12345`, `ecall`.
+    #[test]
+    fn known_words_are_read_and_written(rt: HostRuntime) {
+        let rows = [
+            (
+                0x0050_0093,
+                Instr::Addi {
+                    rd: 1,
+                    rs1: 0,
+                    imm: 5,
+                },
+            ),
+            (
+                0xfff0_0513,
+                Instr::Addi {
+                    rd: 10,
+                    rs1: 0,
+                    imm: -1,
+                },
+            ),
+            (
+                0x1234_52b7,
+                Instr::Lui {
+                    rd: 5,
+                    upper: 0x12345,
+                },
+            ),
+            (0x0000_0073, Instr::Ecall),
+        ];
+        for (word, instr) in rows {
+            assert_eq!(rt; decode(word), Some(instr));
+        }
+    }
+
+    #[test]
+    fn words_outside_the_table_are_none(rt: HostRuntime) {
+        for word in [0, 0x0010_0073, 0x0050_1093, 0xffff_ffff] {
+            assert_eq!(rt; decode(word), None);
+        }
+    }
+}
