@@ -1,1 +1,6 @@
 pub mod Ends
+pub mod MemShelf
+pub mod MemSink
+pub mod Plan
+pub mod RealShelf
+pub mod RealSink
