@@ -1,4 +1,5 @@
 pub mod Ends
+pub mod Files
 pub mod MemShelf
 pub mod MemSink
 pub mod Plan

@@ -1,13 +1,12 @@
 -- What a shelf in memory shows.
 use Rattle.std.specs.Prelude.{◌≡◌, ◌+◌, ◌-◌, ◌^◌, ℕ, List, Bool, Option, min}
-use Rattle.std.specs.Option.{option_map}
-use Rattle.std.specs.BTreeMap.{get_by_text}
+use Rattle.bop_ends.specs.Files.{file_in}
 use Rattle.bop_ends.specs.Plan.{fails_at}
 use Rattle.bop_ends.specs.declared.mem_shelf.MemShelf.{MemShelf}
 
--- what stands in a map under the name
+-- the bytes of the file of this name
 abbrev pub mem_shelf_file : MemShelf → List ℕ → Option (List ℕ)
-mem_shelf_file shelf name = option_map (λ content. content.items) (get_by_text shelf.files name)
+mem_shelf_file shelf = file_in shelf.files
 
 -- the numbers of the loads that are to fail
 abbrev pub mem_shelf_plan : MemShelf → List ℕ

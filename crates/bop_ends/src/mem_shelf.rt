@@ -1,7 +1,7 @@
 // A shelf in memory, which fails as planned.
-ghost use Rattle.std.specs.Prelude.{◌≡◌, true, false, Err, IfOk, IsTrue, IsSome, IsNone, IsOkUnless};
-ghost use Rattle.std.specs.Option.{option_map, option_copied};
-ghost use Rattle.std.specs.BTreeMap.{get_by_text};
+ghost use Rattle.std.specs.Prelude.{◌≡◌, ◌+◌, ◌-◌, ◌^◌, ◌≤◌, min, true, false, Err, IfOk, IsTrue, IsSome, IsNone, IsOkUnless};
+ghost use Rattle.std.specs.Option.{option_copied};
+ghost use Rattle.bop_ends.specs.Files.{file_in};
 ghost use Rattle.bop_ends.specs.Ends.{HasLoadCause, IsFront};
 
 use crate::plan::is_planned;
@@ -25,7 +25,7 @@ impl MemShelf {
 
     /// A shelf with these files. It takes no memory.
     pub fn new(alloc: Global, files: BTreeMap<String, Vec<u8>>, fails: Vec<u64>) -> MemShelf
-        ensures files { mem_shelf_file result ≡ (λ name. option_map (λ content. content.items) (get_by_text files name)) }
+        ensures files { mem_shelf_file result ≡ file_in files }
         ensures plan { mem_shelf_plan result ≡ fails.items }
         ensures calls { mem_shelf_calls result ≡ 0 }
         ensures faults { mem_shelf_faults result ≡ 0 }
@@ -44,6 +44,14 @@ impl MemShelf {
         ensures { option_copied result ≡ mem_shelf_file self.now name.now }
     {
         self.files.get(name).map(|content| content.as_slice())
+    }
+
+    fn count_fault(&mut self)
+        ensures later { self.old.faults ≤ self.new.faults }
+        ensures count { self.new.faults ≡ min (self.old.faults + 1) (2 ^ 64 - 1) }
+        ensures rest { self.new ≡ record self.old { faults = self.new.faults } }
+    {
+        self.faults = self.faults.saturating_add(1);
     }
 }
 
@@ -71,16 +79,54 @@ impl Shelf for MemShelf {
         let planned = is_planned(&self.fails, self.calls);
         self.calls = self.calls.saturating_add(1);
         if planned {
-            self.faults = self.faults.saturating_add(1);
+            self.count_fault();
             return Err(LoadFault::Failed);
         }
-        let Some(content) = self.files.get(name) else {
-            self.faults = self.faults.saturating_add(1);
-            return Err(LoadFault::Failed);
-        };
-        let front = most.min(content.len());
-        content[..front]
-            .to_vec(alloc)
-            .map_err(|_| LoadFault::OutOfMemory)
+        match self.files.get(name) {
+            None => {
+                self.count_fault();
+                Err(LoadFault::Failed)
+            }
+            Some(content) => {
+                let front = most.min(content.len());
+                content[..front]
+                    .to_vec(alloc)
+                    .map_err(|_| LoadFault::OutOfMemory)
+            }
+        }
+    }
+}
+
+#[cfg(test)]
+mod tests {
+    use super::*;
+    use std::test::Fail;
+
+    #[test]
+    fn a_shelf_in_memory_fails_as_planned(rt: HostRuntime) -> Result<(), Fail> {
+        let alloc = rt.alloc();
+        let mut files = BTreeMap::new(alloc);
+        files.insert(String::from_str(alloc, "a.c")?, b"abcdef".to_vec(alloc)?)?;
+        let mut shelf = MemShelf::new(alloc, files, vec![in alloc; 1, 4]?);
+        let failed = Err(LoadFault::Failed);
+        let wants: [(&str, usize, Result<&[u8], LoadFault>); 6] = [
+            ("a.c", 4, Ok(b"abcd")),
+            ("a.c", 4, failed),
+            ("b.c", 4, failed),
+            ("a.c", 9, Ok(b"abcdef")),
+            ("a.c", 9, failed),
+            ("a.c", 0, Ok(b"")),
+        ];
+        for (call, (name, most, want)) in wants.iter().enumerate() {
+            let loaded = shelf.load(alloc, name, *most);
+            let front = match &loaded {
+                Ok(bytes) => Ok(bytes.as_slice()),
+                Err(fault) => Err(*fault),
+            };
+            assert_eq!(rt; front, *want, "load {call}");
+        }
+        assert_eq!(rt; shelf.file("a.c"), Some(b"abcdef".as_slice()));
+        assert_eq!(rt; shelf.file("b.c"), None);
+        Ok(())
     }
 }

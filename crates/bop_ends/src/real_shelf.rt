@@ -58,3 +58,36 @@ impl<F: Files> Shelf for RealShelf<'_, F> {
         }
     }
 }
+
+#[cfg(test)]
+mod tests {
+    use super::*;
+    use std::fs;
+    use std::test::Fail;
+
+    #[test]
+    fn a_shelf_of_real_files_loads_the_front_of_a_file(rt: HostRuntime) -> Result<(), Fail> {
+        let alloc = rt.alloc();
+        fs::write(&rt, "a.c", "abcdef")?;
+        fs::create_dir(&rt, "folder")?;
+        let mut shelf = RealShelf::new(&rt);
+        let failed = Err(LoadFault::Failed);
+        let wants: [(&str, usize, Result<&[u8], LoadFault>); 6] = [
+            ("a.c", 4, Ok(b"abcd")),
+            ("a.c", 6, Ok(b"abcdef")),
+            ("a.c", usize::MAX, Ok(b"abcdef")),
+            ("a.c", 0, Ok(b"")),
+            ("b.c", 4, failed),
+            ("folder", 4, failed),
+        ];
+        for (name, most, want) in wants {
+            let loaded = shelf.load(alloc, name, most);
+            let front = match &loaded {
+                Ok(bytes) => Ok(bytes.as_slice()),
+                Err(fault) => Err(*fault),
+            };
+            assert_eq!(rt; front, want, "{name} up to {most}");
+        }
+        Ok(())
+    }
+}

@@ -54,3 +54,45 @@ impl<W: Write> Sink for RealSink<W> {
         written
     }
 }
+
+#[cfg(test)]
+mod tests {
+    use super::*;
+    use std::io;
+    use std::test::Fail;
+
+    // Takes at most 2 bytes at once, and in all as many as it has room for.
+    #[derive(Drop)]
+    struct Narrow {
+        content: Vec<u8>,
+        room: usize,
+    }
+
+    impl Write for &mut Narrow {
+        fn write(&mut self, buf: &[u8]) -> io::Result<usize> {
+            let room = self.room.saturating_sub(self.content.len());
+            let count = buf.len().min(room).min(2);
+            self.content.extend_from_slice(&buf[..count])?;
+            Ok(count)
+        }
+
+        fn flush(&mut self) -> io::Result<()> {
+            Ok(())
+        }
+    }
+
+    #[test]
+    fn a_sink_over_a_writer_writes_each_piece_whole(rt: HostRuntime) -> Result<(), Fail> {
+        let content = Vec::new(rt.alloc());
+        let mut writer = Narrow { content, room: 8 };
+        let mut sink = RealSink::new(&mut writer);
+        assert_eq!(rt; sink.append(b"abcde"), Ok(()));
+        assert_eq!(rt; sink.append(b""), Ok(()));
+        assert_eq!(rt; sink.append(b"fghij"), Err(Failed));
+        assert_eq!(rt; sink.append(b"k"), Err(Failed));
+        assert_eq!(rt; sink.append(b""), Ok(()));
+        drop(sink);
+        assert_eq!(rt; writer.content.as_slice(), b"abcdefgh".as_slice());
+        Ok(())
+    }
+}
