@@ -68,7 +68,7 @@ mod tests {
         room: usize,
     }
 
-    impl Write for &mut Narrow {
+    impl Write for Narrow {
         fn write(&mut self, buf: &[u8]) -> io::Result<usize> {
             let room = self.room.saturating_sub(self.content.len());
             let count = buf.len().min(room).min(2);
