@@ -28,9 +28,11 @@ next_failure sink = failure_at (mem_sink_plan sink) (mem_sink_calls sink)
 abbrev pub room_left : MemSink → ℕ
 room_left sink = mem_sink_room sink - length (mem_sink_content sink)
 
--- how many bytes of a piece the next call keeps: the whole piece, but no more than planned and than there is room for
+-- how many bytes of a piece the next call keeps: as many as are planned, as there is room for
+-- and as the piece has, whatever is least
 abbrev pub kept_of : MemSink → List ℕ → ℕ
-kept_of sink piece = min (unwrap_or (next_failure sink) (length piece)) (min (room_left sink) (length piece))
+kept_of sink piece =
+    min (unwrap_or (next_failure sink) (length piece)) (min (room_left sink) (length piece))
 
 -- the room and the plan stay, and the next call has the next number
 pub record TakesCall (old new : MemSink) : Type 0 where

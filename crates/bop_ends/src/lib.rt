@@ -1,4 +1,4 @@
-//! The ends of a run: where a program's files stand, where its bytes go, and what counts their faults.
+//! The ends of a run: where its files stand, where its bytes go, and what counts their faults.
 #![tactic(auto)]
 
 mod fault;

@@ -66,14 +66,16 @@ impl Shelf for MemShelf {
 
     fn load(&mut self, alloc: Global, name: &str, most: usize) -> Result<Vec<u8>, LoadFault>
         // What holds of every shelf.
-        ensures bytes { IfOk result (λ bytes. IsFront (mem_shelf_file self.old name.now) most bytes.items) }
+        ensures bytes { IfOk result
+            (λ bytes. IsFront (mem_shelf_file self.old name.now) most bytes.items) }
         ensures files { mem_shelf_file self.new ≡ mem_shelf_file self.old }
         ensures cause { HasLoadCause (mem_shelf_faults self.old) (mem_shelf_faults self.new) result }
 
         // It fails where that is planned or no file has the name, and nowhere else.
         ensures planned { IsTrue (next_fails self.old) → result ≡ Err LoadFault.Failed }
         ensures absent { IsNone (mem_shelf_file self.old name.now) → result ≡ Err LoadFault.Failed }
-        ensures unplanned { next_fails self.old ≡ false → IsSome (mem_shelf_file self.old name.now) → IsOkUnless result LoadFault.OutOfMemory }
+        ensures unplanned { next_fails self.old ≡ false
+            → IsSome (mem_shelf_file self.old name.now) → IsOkUnless result LoadFault.OutOfMemory }
         ensures call { TakesLoad self.old self.new }
     {
         let planned = is_planned(&self.fails, self.calls);

@@ -60,12 +60,15 @@ impl Sink for MemSink {
 
     fn append(&mut self, piece: &[u8]) -> Result<(), Failed>
         // What holds of every sink.
-        ensures bytes { AppendsPiece (Some (mem_sink_content self.old)) (Some (mem_sink_content self.new)) result piece.now }
+        ensures bytes { AppendsPiece (Some (mem_sink_content self.old))
+            (Some (mem_sink_content self.new)) result piece.now }
         ensures cause { HasCause (mem_sink_faults self.old) (mem_sink_faults self.new) result }
 
         // It fails where that is planned or the room is too small, and nowhere else.
-        ensures fails { IsOk result ↔ (IsNone (next_failure self.old) × (length piece.now ≤ room_left self.old)) }
-        ensures kept { mem_sink_content self.new ≡ mem_sink_content self.old ++ take (kept_of self.old piece.now) piece.now }
+        ensures fails { IsOk result
+            ↔ (IsNone (next_failure self.old) × (length piece.now ≤ room_left self.old)) }
+        ensures kept { mem_sink_content self.new
+            ≡ mem_sink_content self.old ++ take (kept_of self.old piece.now) piece.now }
         ensures call { TakesCall self.old self.new }
     {
         let planned = planned_failure(&self.fails, self.calls);

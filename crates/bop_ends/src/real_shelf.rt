@@ -27,7 +27,8 @@ impl<'a, F: Files> RealShelf<'a, F> {
 
 // Reads the first bytes that a reader has.
 fn read_front<R: Read + Drop>(alloc: Global, reader: R, most: usize) -> io::Result<Vec<u8>>
-    ensures { IfOk result (λ bytes. IfSome (R.remaining reader) (λ left. bytes.items ≡ take most left)) }
+    ensures { IfOk result
+        (λ bytes. IfSome (R.remaining reader) (λ left. bytes.items ≡ take most left)) }
 {
     let mut bytes = Vec::new(alloc);
     reader.take(most as u64).read_to_end(&mut bytes)?;
