@@ -22,7 +22,8 @@ pub record HasLoadCause {T : Type 0} (before now : ℕ) (result : Result T LoadF
   pub free : IsErrOf result OutOfMemory → now ≡ before
 
 -- known bytes grow by the whole piece, or at a failure by a front of it
-abbrev pub AppendsPiece : {T E : Type 0} → Option (List ℕ) → Option (List ℕ) → Result T E → List ℕ → Type 0
+abbrev pub AppendsPiece : {T E : Type 0}
+    → Option (List ℕ) → Option (List ℕ) → Result T E → List ℕ → Type 0
 AppendsPiece old new result piece =
     MatchResult result (λ _. Appends old new piece) (λ _. (n : ℕ) × Appends old new (take n piece))
 

@@ -18,7 +18,8 @@ pub trait Shelf {
 
     /// The first `most` bytes of a file. A name that isn't there is a fault.
     fn load(&mut self, alloc: Global, name: &str, most: usize) -> Result<Vec<u8>, LoadFault>
-        ensures bytes { IsTrue (tells self.old) → IfOk result (λ bytes. IsFront (file self.old name.now) most bytes.items) }
+        ensures bytes { IsTrue (tells self.old)
+            → IfOk result (λ bytes. IsFront (file self.old name.now) most bytes.items) }
         ensures tells { tells self.new ≡ tells self.old }
         ensures files { file self.new ≡ file self.old }
         ensures cause { HasLoadCause (faults self.old) (faults self.new) result };

@@ -1,0 +1,94 @@
+// A shelf over the files of the machine.
+ghost use Rattle.std.specs.Prelude.{◌≡◌, None, false, take, IfOk, IfSome};
+
+use crate::{LoadFault, Shelf};
+use std::alloc::Global;
+use std::fs::File;
+use std::io::{self, ErrorKind, Read};
+use std::rt::Files;
+
+/// The files of the machine, by their paths. Each error of opening and reading is a fault, but for
+/// want of memory. It tells nothing.
+#[derive(Drop)]
+pub struct RealShelf<'a, F: Files> {
+    rt: &'a F,
+    faults: u64,
+}
+
+impl<'a, F: Files> RealShelf<'a, F> {
+    ghost use Rattle.bop_ends.specs.RealShelf.{real_shelf_faults};
+
+    pub fn new(rt: &'a F) -> RealShelf<'a, F>
+        ensures { real_shelf_faults result ≡ 0 }
+    {
+        RealShelf { rt, faults: 0 }
+    }
+}
+
+// Reads the first bytes that a reader has.
+fn read_front<R: Read + Drop>(alloc: Global, reader: R, most: usize) -> io::Result<Vec<u8>>
+    ensures { IfOk result
+        (λ bytes. IfSome (R.remaining reader) (λ left. bytes.items ≡ take most left)) }
+{
+    let mut bytes = Vec::new(alloc);
+    reader.take(most as u64).read_to_end(&mut bytes)?;
+    Ok(bytes)
+}
+
+fn load_file<F: Files>(rt: &F, alloc: Global, name: &str, most: usize) -> io::Result<Vec<u8>> {
+    read_front(alloc, File::open(rt, name)?, most)
+}
+
+impl<F: Files> Shelf for RealShelf<'_, F> {
+    ghost use Rattle.bop_ends.specs.RealShelf.{real_shelf_faults};
+
+    ghost tells = { λ _. false };
+
+    ghost file = { λ _ _. None };
+
+    ghost faults = { λ shelf. real_shelf_faults shelf };
+
+    fn load(&mut self, alloc: Global, name: &str, most: usize) -> Result<Vec<u8>, LoadFault> {
+        match load_file(self.rt, alloc, name, most) {
+            Ok(bytes) => Ok(bytes),
+            Err(error) if error.kind() == ErrorKind::OutOfMemory => Err(LoadFault::OutOfMemory),
+            Err(_) => {
+                self.faults = self.faults.saturating_add(1);
+                Err(LoadFault::Failed)
+            }
+        }
+    }
+}
+
+#[cfg(test)]
+mod tests {
+    use super::*;
+    use std::fs;
+    use std::test::Fail;
+
+    #[test]
+    fn a_shelf_of_real_files_loads_the_front_of_a_file(rt: HostRuntime) -> Result<(), Fail> {
+        let alloc = rt.alloc();
+        fs::write(&rt, "a.c", "abcdef")?;
+        fs::create_dir(&rt, "folder")?;
+        let mut shelf = RealShelf::new(&rt);
+        let failed = Err(LoadFault::Failed);
+        let wants: [(&str, usize, Result<&[u8], LoadFault>); 6] = [
+            ("a.c", 4, Ok(b"abcd")),
+            ("a.c", 6, Ok(b"abcdef")),
+            ("a.c", usize::MAX, Ok(b"abcdef")),
+            ("a.c", 0, Ok(b"")),
+            ("b.c", 4, failed),
+            ("folder", 4, failed),
+        ];
+        for (name, most, want) in wants {
+            let loaded = shelf.load(alloc, name, most);
+            let front = match &loaded {
+                Ok(bytes) => Ok(bytes.as_slice()),
+                Err(fault) => Err(*fault),
+            };
+            assert_eq!(rt; front, want, "{name} up to {most}");
+        }
+        Ok(())
+    }
+}
