@@ -1,5 +1,5 @@
 -- How the run of a text's program ends.
-use Rattle.std.proofs.Common.{◌≡◌, ℕ, ℤ, pos, ◌+◌, ◌*◌, ◌<◌, ◌≤◌, ◌^◌, List, [], length, Option, Some, refl, sym, ◌∙◌, ap, subst, arith, w32}
+use Rattle.std.proofs.Common.{◌≡◌, ℕ, ℤ, pos, ◌<◌, ◌≤◌, ◌^◌, List, [], length, Option, Some, refl, sym, ◌∙◌, ap, subst, arith, w32}
 use Rattle.std.specs.Prelude.{IsSome}
 use Rattle.std.proofs.lemmas.Grind.{common_steps}
 use Rattle.std.proofs.lemmas.Int.{ints}
@@ -9,7 +9,7 @@ use Rattle.rv_code.specs.State.{stop_of, output_of}
 use Rattle.rv_code.specs.Run.{seq}
 use Rattle.rv_code.proofs.Runs.{seq-stays}
 use Rattle.low_link.specs.Form.{IsForm}
-use Rattle.low_link.specs.Code.{IsProgramOf, program_of}
+use Rattle.low_link.specs.Code.{IsProgramOf}
 use Rattle.low_link.specs.Laws.{Performs}
 use Rattle.low_link.proofs.Simulation.{performs}
 use Rattle.bop_ends.specs.Ends.{IsFront}

@@ -1,5 +1,5 @@
 -- A run in place, step by step.
-use Rattle.std.proofs.Common.{◌≡◌, ℕ, ◌+◌, ◌≤◌, ◌<◌, List, [], ◌∷◌, ◌++◌, Option, Some, None, false, refl, sym, ◌∙◌, ap, subst, append_assoc, append-nil, arith}
+use Rattle.std.proofs.Common.{◌≡◌, ℕ, ◌+◌, ◌≤◌, List, [], ◌∷◌, ◌++◌, Option, Some, None, false, refl, sym, ◌∙◌, ap, subst, append_assoc, append-nil, arith}
 use Rattle.std.specs.Prelude.{IsSome, is_some}
 use Rattle.std.specs.Io.KnownBytes.{Appends}
 use Rattle.std.proofs.KnownBytes.{Appends-nil, Appends-trans}
@@ -60,7 +60,7 @@ pub stepped : (program : Program) (input : List ℕ) (m n : Machine) (output add
     → n.count ≡ m.count + 1 → machine_of n (start program).memory (output ++ add) ≡ seq program input n.count
 stepped program input m n output add going here goes count =
     let running : machine_of m (start program).memory output ≡ Running (state_of m (start program).memory output) =
-        ap (λ how. stopped_by how (state_of m (start program).memory output)) going in
+    ap (λ how. stopped_by how (state_of m (start program).memory output)) going in
     sym goes ∙ ap (step program.code input) (sym running ∙ here) ∙ sym (seq-one program input m.count) ∙ ap (seq program input) (sym count)
 
 -- a step that puts nothing out
@@ -78,7 +78,7 @@ pub stands-put : (program : Program) (input : List ℕ) (m n : Machine) (a b c :
 stands-put program input m n a b c piece left byte s going goes count moved =
     let here = stepped program input m n (s.done ++ piece) (byte ∷ []) going s.state goes count in
     let whole : (s.done ++ piece) ++ byte ∷ [] ≡ (s.done ++ moved.0) ++ left =
-        append_assoc s.done piece (byte ∷ []) ∙ ap (λ (x : List ℕ). s.done ++ x) moved.1 ∙ sym (append_assoc s.done moved.0 left) in
+    append_assoc s.done piece (byte ∷ []) ∙ ap (λ (x : List ℕ). s.done ++ x) moved.1 ∙ sym (append_assoc s.done moved.0 left) in
     record { done = s.done ++ moved.0; state = ap (machine_of n (start program).memory) (sym whole) ∙ here; sink = Appends-trans a b c s.done moved.0 s.sink moved.2 }
 
 -- what was put out so far is the output of the run so far
@@ -94,7 +94,7 @@ pub part-put : (program : Program) (input : List ℕ) (m n : Machine) (a b c : O
 part-put program input m n a b c piece byte budget s going goes count low part =
     let here = stepped program input m n (s.done ++ piece) (byte ∷ []) going s.state goes count in
     let whole : s.done ++ (piece ++ byte ∷ []) ≡ output_of (seq program input n.count) =
-        sym (append_assoc s.done piece (byte ∷ [])) ∙ output-is program input n ((s.done ++ piece) ++ byte ∷ []) here in
+    sym (append_assoc s.done piece (byte ∷ [])) ∙ output-is program input n ((s.done ++ piece) ++ byte ∷ []) here in
     let grows : IsPrefix (s.done ++ (piece ++ byte ∷ [])) (output_of (seq program input budget)) = rw whole (seq-grows program input n.count budget low) in
     AppendsPrefix-longer a c _ _ grows (AppendsPrefix-after a b c s.done (piece ++ byte ∷ []) s.sink part)
 

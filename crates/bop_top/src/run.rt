@@ -15,7 +15,12 @@ use bop_ends::{Failed, Sink};
 use rv_code::Program;
 
 /// Runs a program on its input until it stops or has made so many steps.
-pub fn run<K: Sink>(program: &Program, input: &[u8], budget: u64, sink: &mut K) -> Result<Machine, Failed>
+pub fn run<K: Sink>(
+    program: &Program,
+    input: &[u8],
+    budget: u64,
+    sink: &mut K,
+) -> Result<Machine, Failed>
     requires few { length program.now.code ≤ CODE_WORDS }
     requires short { length input.now ≤ 16777216 }
     requires small { budget ≤ 1000000000000 }

@@ -1,8 +1,7 @@
 -- The code of characters, one by one.
-use Rattle.std.proofs.Common.{◌≡◌, ℕ, ℤ, ◌+◌, ◌*◌, ◌<◌, ◌≤◌, List, [], ◌∷◌, ◌++◌, length, take, get_or, refl, ◌∙◌, ap, length-append, arith}
+use Rattle.std.proofs.Common.{◌≡◌, ℕ, ◌+◌, ◌*◌, ◌<◌, List, [], ◌∷◌, ◌++◌, length, take, get_or, refl, ap, arith}
 use Rattle.std.proofs.lemmas.List.{take_more}
-use Rattle.rv_code.specs.Table.{word_of}
-use Rattle.low_link.specs.Code.{put_code, puts_code, return_code, code_of}
+use Rattle.low_link.specs.Code.{put_code, puts_code}
 
 pub puts_code-append : (xs ys : List ℕ) → puts_code (xs ++ ys) ≡ puts_code xs ++ puts_code ys
 puts_code-append [] ys = refl

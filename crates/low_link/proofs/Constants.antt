@@ -1,7 +1,5 @@
 -- Reading a constant.
-use mathlib.Core.Logic.{inl, inr}
-use Rattle.std.proofs.Common.{◌≡◌, ℕ, ℤ, zero, suc, pos, ◌^◌, ◌<◌, List, [], ◌∷◌, length, get_or, Bor, Option, Some, None, Result, Ok, Err, MatchOption, MatchResult, refl, sym, ◌∙◌, subst, arith, w32}
-use Rattle.std.specs.Prelude.{slice_index}
+use Rattle.std.proofs.Common.{◌≡◌, ℕ, ℤ, zero, suc, pos, ◌^◌, ◌<◌, List, [], ◌∷◌, length, get_or, Bor, Some, None, Result, Ok, Err, MatchOption, MatchResult, subst, arith, w32}
 use Rattle.std.specs.Char.{IsAsciiDigit}
 use Rattle.std.specs.List.{All}
 use Rattle.std.specs.Result.{OkIff, result_ok}

@@ -1,9 +1,9 @@
 -- A text says one thing at most.
-use Rattle.std.proofs.Common.{◌≡◌, ℕ, ℤ, pos, List, [], ◌∷◌, ◌++◌, length, get_or, refl, sym, ◌∙◌, ap, subst, append_assoc, arith}
+use Rattle.std.proofs.Common.{◌≡◌, ℕ, ℤ, pos, List, [], ◌∷◌, ◌++◌, get_or, refl, sym, ◌∙◌, ap, arith}
 use Rattle.std.specs.Prelude.{codes}
 use Rattle.std.specs.List.{AllByRecursion}
 use Rattle.std.proofs.lemmas.List.{append_cancel_left}
-use Rattle.low_link.specs.Form.{IsPlain, IsConstant, IsReturn, IsForm, put_text, puts_text}
+use Rattle.low_link.specs.Form.{IsPlain, IsReturn, IsForm, puts_text}
 use Rattle.low_link.specs.Reading.{BeginsNoPut}
 use Rattle.std.specs.Str.Parse.{digits_value}
 use Rattle.low_link.proofs.Ends.{same_digits}

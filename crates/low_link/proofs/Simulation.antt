@@ -1,5 +1,5 @@
 -- The code of a text of the form puts its characters and exits.
-use Rattle.std.proofs.Common.{◌≡◌, ℕ, ℤ, zero, suc, pos, ◌+◌, ◌-◌, ◌*◌, ◌/◌, ◌%◌, ◌^◌, ◌<◌, ◌≤◌, List, [], ◌∷◌, ◌++◌, length, Option, Some, refl, sym, ◌∙◌, ap, subst, append_assoc, append-nil, zero-add, length-append, arith, rules}
+use Rattle.std.proofs.Common.{◌≡◌, ℕ, ℤ, suc, pos, ◌+◌, ◌*◌, ◌%◌, ◌^◌, ◌<◌, List, [], ◌∷◌, ◌++◌, length, Some, refl, sym, ◌∙◌, ap, subst, append_assoc, append-nil, length-append, arith, rules}
 use Rattle.std.specs.Prelude.{slice_get, slice_index, slice_set}
 use Rattle.std.specs.List.{AllByRecursion}
 use Rattle.std.specs.Int.{w32, cast_unsigned, cast_signed}
@@ -8,13 +8,13 @@ use Rattle.std.proofs.lemmas.Int.{ints}
 use Rattle.rv_code.specs.declared.instr.Instr.TheVariants.{Lui, Addi, Ecall}
 use Rattle.rv_code.specs.declared.stop.Stop.TheVariants.{Exit}
 use Rattle.rv_code.specs.Table.{IsInstr, word_of}
-use Rattle.rv_code.specs.State.{State, Machine, Running, Stopped, start, register, with_register, stop_of, output_of}
-use Rattle.rv_code.specs.Step.{address_of, acts, calls, step, sum_32}
+use Rattle.rv_code.specs.State.{State, Running, start, register, with_register, stop_of, output_of}
+use Rattle.rv_code.specs.Step.{address_of, calls, step, sum_32}
 use Rattle.rv_code.specs.Run.{run, seq}
 use Rattle.rv_code.proofs.Runs.{run-zero, run-add}
 use Rattle.rv_code.proofs.Steps.{step-at}
-use Rattle.low_link.specs.Form.{IsPlain, IsForm}
-use Rattle.low_link.specs.Code.{put_code, puts_code, upper_of, lower_of, return_code, code_of, program_of}
+use Rattle.low_link.specs.Form.{IsPlain}
+use Rattle.low_link.specs.Code.{puts_code, upper_of, lower_of, return_code, code_of, program_of}
 use Rattle.low_link.specs.Laws.{Performs}
 use Rattle.low_link.proofs.Codes.{length-puts_code}
 
@@ -58,8 +58,8 @@ put-runs code input place character out s small first second third at =
     let r1 : register s2.registers 17 ≡ 2 = read-first s.registers 2 v at.many in
     let r2 : register s2.registers 10 ≡ v = read-last s.registers 2 v at.many in
     let f : run code input 3 (Running s) ≡ calls input s2 2 v =
-        ap (λ m. step code input (step code input m)) e1 ∙ ap (step code input) e2 ∙ e3
-        ∙ ap (λ n. calls input s2 n (register s2.registers 10)) r1 ∙ ap (calls input s2 2) r2 in
+    ap (λ m. step code input (step code input m)) e1 ∙ ap (step code input) e2 ∙ e3
+    ∙ ap (λ n. calls input s2 n (register s2.registers 10)) r1 ∙ ap (calls input s2 2) r2 in
     let low : v % 256 ≡ character = grind arith in
     record {
       state = wrote (record s2 { output = s2.output ++ v % 256 ∷ [] }) 10 (v % 256);
@@ -103,8 +103,8 @@ end-runs code input place exit out s n is fits first second third fourth at =
     let r2 : register s3.registers 10 ≡ w = grind (arith, common_steps, at.many) in
     let made : w ≡ n = ap (λ r. sum_32 r (cast_unsigned w32 (lower_of exit))) r0 ∙ parts-make exit n is fits in
     let f : run code input 4 (Running s) ≡ calls input s3 0 n =
-        ap (λ m. step code input (step code input (step code input m))) e1 ∙ ap (λ m. step code input (step code input m)) e2 ∙ ap (step code input) e3 ∙ e4
-        ∙ ap (λ k. calls input s3 k (register s3.registers 10)) r1 ∙ ap (calls input s3 0) (r2 ∙ made) in
+    ap (λ m. step code input (step code input (step code input m))) e1 ∙ ap (λ m. step code input (step code input m)) e2 ∙ ap (step code input) e3 ∙ e4
+    ∙ ap (λ k. calls input s3 k (register s3.registers 10)) r1 ∙ ap (calls input s3 0) (r2 ∙ made) in
     (ap stop_of f ∙ ap (λ (v : ℤ). Some (Exit v)) (exit_value exit n is fits), ap output_of f ∙ at.said)
 
 -- a word behind a front
@@ -174,5 +174,5 @@ performs characters input exit n is fits plain =
     let e : slice_get code (length front + 3) ≡ Some w4 = word_behind front (w1 ∷ w2 ∷ w3 ∷ []) [] w4 (length front + 3) refl in
     let ends = end-runs code input (length front) exit characters puts.state n is fits a b d e at in
     let whole : run code input (m + 4) (Running (start program)) ≡ run code input 4 (Running puts.state) =
-        run-add code input m 4 (Running (start program)) ∙ ap (run code input 4) puts.runs in
+    run-add code input m 4 (Running (start program)) ∙ ap (run code input 4) puts.runs in
     record { steps = m + 4; few = omega arith; stops = rw whole ends.0; puts = rw whole ends.1 }

@@ -5,5 +5,4 @@ ghost use Rattle.low_link.specs.Laws.{OneForm, ProgramMeansForm};
 pub fn laws_of_forms()
     ensures one { OneForm }
     ensures means { ProgramMeansForm }
-{
-}
+{}

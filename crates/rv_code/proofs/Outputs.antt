@@ -1,5 +1,5 @@
 -- The output of a run only grows.
-use Rattle.std.proofs.Common.{◌≡◌, ℕ, zero, suc, ◌+◌, ◌-◌, ◌≤◌, List, [], ◌∷◌, Bool, true, false, Option, Some, None, refl, sym, ◌∙◌, ap, arith}
+use Rattle.std.proofs.Common.{◌≡◌, ℕ, zero, suc, ◌+◌, ◌-◌, ◌≤◌, List, [], ◌∷◌, Bool, true, false, Option, Some, None, sym, ◌∙◌, ap, arith}
 use Rattle.std.specs.Prelude.{if◌then◌else◌, ◌==◌, ◌%◌, nat_le, slice_get}
 use Rattle.byte_lists.specs.Prefix.{IsPrefix}
 use Rattle.byte_lists.proofs.Prefixes.{IsPrefix-refl, IsPrefix-trans, IsPrefix-append}

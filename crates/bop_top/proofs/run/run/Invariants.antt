@@ -1,4 +1,4 @@
-use Rattle.std.proofs.Common.{◌≡◌, ℕ, ◌<◌, ◌≤◌, ◌-◌, length}
+use Rattle.std.proofs.Common.{◌≡◌, ◌<◌, ◌≤◌, ◌-◌, length}
 use Rattle.bop_top.proofs.Running.{Stands}
 use Rattle.bop_top.proofs.run.run.Given as goal
 

@@ -1,8 +1,6 @@
 use Rattle.std.proofs.Common.{◌≡◌, [], Some, Err, refl, ap}
 use Rattle.std.proofs.KnownBytes.{Appends-nil}
 use Rattle.rv_code.specs.declared.stop.Stop.TheVariants.{Exit}
-use Rattle.rv_code.specs.State.{output_of}
-use Rattle.rv_code.specs.Run.{seq}
 use Rattle.bop_top.proofs.Finish.{exited, done-says}
 use Rattle.bop_top.proofs.top.seq_text.Goals as goal
 

@@ -1,7 +1,4 @@
-use Rattle.std.proofs.Common.{◌≡◌, sym, ◌∙◌, subst, arith}
-use Rattle.std.specs.Option.{MatchOption}
-use Rattle.std.specs.Str.Parse.{ParsesSigned}
-use Rattle.low_link.specs.Form.{IsConstant}
+use Rattle.std.proofs.Common.{sym, ◌∙◌, arith}
 use Rattle.low_link.proofs.Constants.{digits-utf8, no_text, same_text, parsed}
 use Rattle.low_link.proofs.form.read_constant.Goals as goal
 

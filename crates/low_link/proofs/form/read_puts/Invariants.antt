@@ -1,4 +1,4 @@
-use Rattle.std.proofs.Common.{◌≡◌, ℕ, ◌≤◌, length, ◌++◌}
+use Rattle.std.proofs.Common.{◌≡◌, length}
 use Rattle.std.specs.List.{AllByRecursion}
 use Rattle.low_link.specs.Form.{IsPlain, puts_text}
 use Rattle.low_link.proofs.form.read_puts.Given as goal
