@@ -21,9 +21,9 @@ abbrev pub Ran : List ℕ → (Machine → Type 0) → Type 0
 Ran text P = (program : Program) × IsProgramOf text program × P (seq program [] BUDGET)
 
 -- the machine has exited with this value, and these are all the bytes that it has put out
-pub record Exited (m : Machine) (exit : ℤ) (w : List ℕ) : Type 0 where
+pub record Exited (m : Machine) (exit : ℤ) (written : List ℕ) : Type 0 where
   pub stops : stop_of m ≡ Some (Exit exit)
-  pub whole : w ≡ output_of m
+  pub whole : written ≡ output_of m
 
 -- no text that compiles yet
 abbrev pub IsNotBuilt : List ℕ → Type 0
@@ -31,12 +31,12 @@ IsNotBuilt text = (characters : List ℕ) (exit : ℤ) → IsForm text character
 
 -- what a status says of the program's file and of the bytes written
 abbrev pub Says : Status → Option (List ℕ) → List ℕ → Type 0
-Says (Done exit) file w = OfText file (λ text. Ran text (λ m. Exited m exit w) × IsForm text w exit)
-Says WriteFault file w = OfText file (λ text. Ran text (λ m. IsPrefix w (output_of m)))
-Says NotYetBuilt file w = OfText file IsNotBuilt × (w ≡ [])
-Says LoadFault file w = w ≡ []
-Says OutOfMemory file w = w ≡ []
-Says BadWords file w = ⊥
+Says (Done exit) file written = OfText file (λ text. Ran text (λ m. Exited m exit written) × IsForm text written exit)
+Says WriteFault file written = OfText file (λ text. Ran text (λ m. IsPrefix written (output_of m)))
+Says NotYetBuilt file written = OfText file IsNotBuilt × (written ≡ [])
+Says LoadFault file written = written ≡ []
+Says OutOfMemory file written = written ≡ []
+Says BadWords file written = ⊥
 
 -- how often each end has failed
 pub record Faults : Type 0 where

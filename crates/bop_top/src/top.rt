@@ -33,7 +33,7 @@ pub fn bop_main<K: Sink, R: Sink, H: Shelf>(
     report: &mut R,
 ) -> (Status, K)
     ensures seq { IsTrue (H.tells shelf.old) → (name : List ℕ) → IsRequest (map string_bytes words.now) (Seq name)
-        → (w : List ℕ) × Appends (K.content output) (K.content result.1) w × Says result.0 (H.file shelf.old name) w }
+        → (written : List ℕ) × Appends (K.content output) (K.content result.1) written × Says result.0 (H.file shelf.old name) written }
     ensures bad_words { (result.0 ≡ BadWords) ↔ ((request : Request) → IsRequest (map string_bytes words.now) request → ⊥) }
     ensures nothing { result.0 ≡ BadWords → Keeps (K.content output) (K.content result.1) }
     ensures counts { Counts result.0
@@ -53,7 +53,7 @@ pub fn bop_main<K: Sink, R: Sink, H: Shelf>(
 
 // Loads a program and runs it.
 fn seq<K: Sink, H: Shelf>(alloc: Global, name: &str, shelf: &mut H, output: &mut K) -> Status
-    ensures says { IsTrue (H.tells shelf.old) → (w : List ℕ) × Appends (K.content output.old) (K.content output.new) w × Says result (H.file shelf.old name.now) w }
+    ensures says { IsTrue (H.tells shelf.old) → (written : List ℕ) × Appends (K.content output.old) (K.content output.new) written × Says result (H.file shelf.old name.now) written }
     ensures words { result ≡ BadWords → ⊥ }
     ensures counts { (r : ℕ) → Counts result
         (record { shelf = H.faults shelf.old; output = K.faults output.old; report = r })
@@ -70,7 +70,7 @@ fn seq<K: Sink, H: Shelf>(alloc: Global, name: &str, shelf: &mut H, output: &mut
 
 // Compiles a text and runs its program.
 fn seq_text<K: Sink>(alloc: Global, text: &[u8], output: &mut K) -> Status
-    ensures says { (file : Option (List ℕ)) → IsFront file MOST_BYTES text.now → (w : List ℕ) × Appends (K.content output.old) (K.content output.new) w × Says result file w }
+    ensures says { (file : Option (List ℕ)) → IsFront file MOST_BYTES text.now → (written : List ℕ) × Appends (K.content output.old) (K.content output.new) written × Says result file written }
     ensures words { result ≡ BadWords → ⊥ }
     ensures load { result ≡ Status.LoadFault → ⊥ }
     ensures counts { (h r : ℕ) → Counts result

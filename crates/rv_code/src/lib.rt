@@ -21,7 +21,7 @@ pub use stop::{Stop, Trap};
 mod tests {
     use super::*;
 
-    // Words of the assembler's listings: `addi x1, x0, 5`, `lui x5, 0x12345`, `ecall`.
+    // As an assembler writes `addi x1, x0, 5`, `addi x10, x0, -1`, `lui x5, 0x12345` and `ecall`.
     #[test]
     fn known_words_are_read_and_written(rt: HostRuntime) {
         let rows = [
@@ -51,7 +51,11 @@ mod tests {
             (0x0000_0073, Instr::Ecall),
         ];
         for (word, instr) in rows {
-            assert_eq!(rt; decode(word), Some(instr));
+            let read = decode(word);
+            assert_eq!(rt; read, Some(instr));
+            if let Some(read) = read {
+                assert_eq!(rt; encode(&read), word);
+            }
         }
     }
 
