@@ -1,0 +1,5 @@
+pub mod Erased
+pub mod Erasing
+pub mod FirstOperand
+pub mod Lists
+pub mod Views

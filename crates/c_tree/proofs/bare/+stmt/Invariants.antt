@@ -1,0 +1,7 @@
+use Rattle.std.proofs.Common.{◌≡◌, map, take}
+use Rattle.c_tree.specs.View.{statement}
+use Rattle.c_tree.specs.Erase.{erased}
+use Rattle.c_tree.proofs.bare.+stmt.Given as goal
+
+abbrev pub invariant-stmts-loop-s : goal.invariant-stmts-loop-s
+invariant-stmts-loop-s l = map statement l.bare.items ≡ map erased (map statement (take l.s-index l.list))

@@ -1,0 +1,5 @@
+pub mod Erase
+pub mod FirstOperand
+pub mod Markers
+pub mod Syntax
+pub mod View

@@ -1,0 +1,21 @@
+//! Laws of erasing markers.
+
+ghost use Rattle.std.specs.Prelude.{◌≡◌, List, []};
+ghost use Rattle.c_tree.specs.Syntax.{Part};
+ghost use Rattle.c_tree.specs.Erase.{erased_text};
+ghost use Rattle.c_tree.specs.Markers.{text_markers};
+
+/// An erased text has no marker.
+pub fn erased_text_has_no_marker()
+    ensures { (text : List Part) → text_markers (erased_text text) ≡ [] }
+{}
+
+/// A text without markers stays.
+pub fn unmarked_text_stays()
+    ensures { (text : List Part) → text_markers text ≡ [] → erased_text text ≡ text }
+{}
+
+/// Erasing twice is erasing once.
+pub fn erasing_twice_is_erasing_once()
+    ensures { (text : List Part) → erased_text (erased_text text) ≡ erased_text text }
+{}

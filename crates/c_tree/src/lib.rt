@@ -1,0 +1,26 @@
+//! Trees of the source language.
+#![tactic(auto)]
+
+mod bare;
+mod copy;
+mod ctype;
+mod law;
+mod memory;
+mod name;
+mod operator;
+mod place;
+mod spine;
+#[cfg(test)]
+mod tests;
+mod tree;
+
+pub use bare::erase;
+pub use ctype::CType;
+pub use law::{erased_text_has_no_marker, erasing_twice_is_erasing_once, unmarked_text_stays};
+pub use memory::OutOfMemory;
+pub use name::Name;
+pub use operator::{Binary, Keep, Step, Unary};
+pub use place::Place;
+pub use tree::{
+    Callee, Count, Expr, ExprKind, First, Fun, Init, Item, Marker, Param, Stmt, StmtKind, Tree, Var,
+};
