@@ -1,0 +1,13 @@
+pub mod Opens
+pub mod Law
+pub mod Depth
+pub mod Words
+pub mod Sound
+pub mod Rules
+pub mod Through
+pub mod Binds
+pub mod Raised
+pub mod Complete
+pub mod Exact
+pub mod Placed
+pub mod Once

@@ -1,0 +1,6 @@
+pub mod Leveled
+pub mod Spelled
+pub mod Grammar
+pub mod Parsing
+pub mod Reading
+pub mod Rules

@@ -1,0 +1,305 @@
+-- How the parser reads, as a function on lists. It is a device for proofs: what is read rightly is said by `Grammar`.
+use Rattle.std.specs.Prelude.{◌≡◌, ℕ, zero, suc, ◌==◌, List, [], ◌∷◌, ◌++◌, length, Bool, true, false, if◌then◌else◌, codes, Option, Some, None, Result, Ok, Err, ◌⊎◌}
+use mathlib.Core.Logic.{inl, inr}
+use Rattle.c_tree.specs.declared.operator.Binary.{Binary}
+use Rattle.c_tree.specs.declared.operator.Step.{Step}
+use Rattle.c_tree.specs.declared.operator.Unary.{Unary}
+use Rattle.c_tree.specs.declared.place.Place.{Place}
+use Rattle.c_tree.specs.declared.tree.Callee.{Callee}
+use Rattle.c_tree.specs.declared.tree.Callee.TheVariants as c
+use Rattle.c_tree.specs.Syntax.{Shape, IntShape, UnsignedShape, Expression, Variable, Numeral, Letter, EndOfFile, Prefix, Stepped, Converted, Infix, Choice, Stored, Element, Called}
+use Rattle.c_tree.specs.View.{shape, row}
+use Rattle.c_token.specs.declared.token.Kind.{Kind}
+use Rattle.c_token.specs.declared.token.Kind.TheVariants as k
+use Rattle.c_token.specs.declared.token.Token.{Token}
+use Rattle.c_expr.specs.declared.fault.ParseFault.{ParseFault}
+use Rattle.c_expr.specs.declared.fault.ParseFault.TheVariants.{Unexpected, TooDeep, OutOfMemory}
+use Rattle.c_expr.specs.declared.rule.Rule.{Rule}
+use Rattle.c_expr.specs.declared.rule.Rule.TheVariants.{Assign, Cond, Unary as UnaryRule}
+use Rattle.c_expr.specs.Spelled.{sign, same, assign_op, binary_op, rank, lor, prefix_op, first_step, last_step, builtin, plain_base}
+
+abbrev pub Outcome : Type 0 → Type 0
+Outcome X = Result (X × List Token) ParseFault
+
+infixl 10 ◌>>=◌
+abbrev pub ◌>>=◌ : {X Y : Type 0} → Outcome X → (X × List Token → Outcome Y) → Outcome Y
+(Ok x) >>= f = f x
+(Err e) >>= f = Err e
+
+-- What a function returned, seen by view, is what reading gives, unless memory ran out.
+abbrev pub Fails : {Y : Type 0} → ParseFault → Outcome Y → Type 0
+Fails OutOfMemory read = Unit {0}
+Fails (Unexpected p) read = read ≡ Err (Unexpected p)
+Fails (TooDeep p) read = read ≡ Err (TooDeep p)
+
+abbrev pub Gives : {X Y : Type 0} → (X → Y × List Token) → Result X ParseFault → Outcome Y → Type 0
+Gives view (Ok x) read = read ≡ Ok (view x)
+Gives view (Err e) read = Fails e read
+
+abbrev pub kind_of : List Token → Kind
+kind_of [] = k.End
+kind_of (x ∷ xs) = x.kind
+
+abbrev pub nowhere : Place
+nowhere = record { line = 0; column = 0 }
+
+abbrev pub place_of : List Token → Place
+place_of [] = nowhere
+place_of (x ∷ xs) = x.place
+
+abbrev pub refuse : {X : Type 0} → List Token → Outcome X
+refuse ts = Err (Unexpected (place_of ts))
+
+-- The room is how many levels may still be added, and one more: at 0 any token is too deep.
+abbrev pub take : ℕ → List Token → Outcome Token
+take r [] = refuse []
+take zero (x ∷ xs) = Err (TooDeep x.place)
+take (suc r) (x ∷ xs) = Ok (x, xs)
+
+abbrev pub expect : Kind → ℕ → List Token → Outcome Token
+expect kind r ts = if same (kind_of ts) kind then take r ts else refuse ts
+
+-- what begins an expression
+abbrev pub operand_by : Kind → Bool → Option Callee → Bool
+operand_by (k.Name n) eof callee = true
+operand_by (k.Number ty v) eof callee = true
+operand_by (k.Character v) eof callee = true
+operand_by _ true callee = true
+operand_by _ false (Some callee) = true
+operand_by _ false None = false
+
+abbrev pub begins_by : Option Unary → Option Step → Bool → Bool → Bool
+begins_by (Some o) how opened operand = true
+begins_by None (Some how) opened operand = true
+begins_by None None true operand = true
+begins_by None None false operand = operand
+
+abbrev pub is_eof : Kind → Bool
+is_eof kind = same kind (k.Reserved (codes "EOF"))
+
+abbrev pub opens : Kind → Bool
+opens kind = same kind (sign (codes "("))
+
+abbrev pub closes : Kind → Bool
+closes kind = same kind (sign (codes ")"))
+
+abbrev pub begins : Kind → Bool
+begins kind = begins_by (prefix_op kind) (first_step kind) (opens kind) (operand_by kind (is_eof kind) (builtin kind))
+
+-- where no rule may be opened any more
+abbrev pub fault_at_start : List Token → ParseFault
+fault_at_start ts = if begins (kind_of ts) then TooDeep (place_of ts) else Unexpected (place_of ts)
+
+abbrev pub of_rank : ℕ → Option Binary → Option Binary
+of_rank rk (Some o) = if rank o == rk then Some o else None
+of_rank rk None = None
+
+abbrev pub operator_of : ℕ → Kind → Option Binary
+operator_of rk kind = of_rank rk (binary_op kind)
+
+-- One more operator and its operand, and then `onward`
+abbrev pub chain_step : (List Token → Outcome Expression) → (Expression → List Token → Outcome Expression) → Option Binary → ℕ → Expression → List Token → Outcome Expression
+chain_step operand onward None r x ts = Ok (x, ts)
+chain_step operand onward (Some o) r x ts = do
+  mark ← take r ts
+  y ← operand mark.1
+  onward (Infix o x y.0 mark.0.place) y.1
+
+abbrev pub chain_from : (ℕ → List Token → Outcome Expression) → ℕ → ℕ → Expression → List Token → Outcome Expression
+chain_from operand rk zero x ts = chain_step (operand zero) (λ y us. Ok (y, us)) (operator_of rk (kind_of ts)) zero x ts
+chain_from operand rk (suc r) x ts = chain_step (operand r) (chain_from operand rk r) (operator_of rk (kind_of ts)) (suc r) x ts
+
+-- Turns of a step that says whether it was the last. The number bounds them.
+abbrev pub turn : {A B : Type 0} → (A → List Token → Outcome B) → (A ⊎ B) × List Token → Outcome B
+turn onward (inl x, ts) = onward x ts
+turn onward (inr y, ts) = Ok (y, ts)
+
+abbrev pub turns : {A B : Type 0} → (A → List Token → Outcome (A ⊎ B)) → ℕ → A → List Token → Outcome B
+turns step zero x ts = refuse ts
+turns step (suc n) x ts = step x ts >>= turn (turns step n)
+
+abbrev pub unsigned_of : Shape → Shape
+unsigned_of IntShape = UnsignedShape
+unsigned_of other = other
+
+-- Behind `unsigned`
+abbrev pub after_unsigned : Option Shape → ℕ → List Token → Outcome Shape
+after_unsigned None r ts = Ok (UnsignedShape, ts)
+after_unsigned (Some to) r ts = do
+  word ← take r ts
+  Ok (unsigned_of to, word.1)
+
+abbrev pub base_by : Option Shape → Bool → ℕ → List Token → Outcome Shape
+base_by (Some to) unsigned r ts = do
+  word ← take r ts
+  Ok (to, word.1)
+base_by None true r ts = do
+  word ← take r ts
+  after_unsigned (plain_base (kind_of word.1)) r word.1
+base_by None false r ts = refuse ts
+
+abbrev pub is_unsigned : Kind → Bool
+is_unsigned kind = same kind (k.Reserved (codes "unsigned"))
+
+abbrev pub base : ℕ → List Token → Outcome Shape
+base r ts = base_by (plain_base (kind_of ts)) (is_unsigned (kind_of ts)) r ts
+
+abbrev pub is_base_by : Option Shape → Bool → Bool
+is_base_by (Some to) unsigned = true
+is_base_by None unsigned = unsigned
+
+abbrev pub is_base : Kind → Bool
+is_base kind = is_base_by (plain_base kind) (is_unsigned kind)
+
+-- Each rule, by the rules that it opens, which take the room and the tokens.
+module _ (again : Rule → ℕ → List Token → Outcome Expression) where
+  abbrev pub after_condition : Option (Option Binary) → ℕ → Expression → List Token → Outcome Expression
+  after_condition None r x ts = Ok (x, ts)
+  after_condition (Some how) r x ts = do
+    mark ← take r ts
+    y ← again Assign r mark.1
+    Ok (Stored how x y.0 mark.0.place, y.1)
+
+  unfoldable pub assign_inside : ℕ → List Token → Outcome Expression
+  assign_inside r ts = do
+    x ← again Cond r ts
+    after_condition (assign_op (kind_of x.1)) r x.0 x.1
+
+  unfoldable pub binary : ℕ → ℕ → List Token → Outcome Expression
+  binary zero r ts = again UnaryRule r ts
+  binary (suc rk) r ts = do
+    x ← binary rk r ts
+    chain_from (binary rk) (suc rk) r x.0 x.1
+
+  abbrev pub after_test : Bool → ℕ → Expression → List Token → Outcome Expression
+  after_test false r x ts = Ok (x, ts)
+  after_test true r x ts = do
+    mark ← take r ts
+    y ← again Assign r mark.1
+    colon ← expect (sign (codes ":")) r y.1
+    z ← again Cond r colon.1
+    Ok (Choice x y.0 z.0 mark.0.place, z.1)
+
+  unfoldable pub cond_inside : ℕ → List Token → Outcome Expression
+  cond_inside r ts = do
+    x ← binary lor r ts
+    after_test (same (kind_of x.1) (sign (codes "?"))) r x.0 x.1
+
+  -- One suffix, and then `onward`
+  abbrev pub suffix_step : (Expression → List Token → Outcome Expression) → Bool → Option Step → ℕ → Expression → List Token → Outcome Expression
+  suffix_step onward true how r x ts = do
+    opened ← take r ts
+    y ← again Assign r opened.1
+    closed ← expect (sign (codes "]")) r y.1
+    onward (Element x y.0 opened.0.place) closed.1
+  suffix_step onward false (Some how) r x ts = do
+    mark ← take r ts
+    onward (Stepped how x mark.0.place) mark.1
+  suffix_step onward false None r x ts = Ok (x, ts)
+
+  abbrev pub suffixes_from : ℕ → Expression → List Token → Outcome Expression
+  suffixes_from zero x ts = suffix_step (λ y us. Ok (y, us)) (same (kind_of ts) (sign (codes "["))) (last_step (kind_of ts)) zero x ts
+  suffixes_from (suc r) x ts = suffix_step (suffixes_from r) (same (kind_of ts) (sign (codes "["))) (last_step (kind_of ts)) (suc r) x ts
+
+  abbrev pub after_argument : Bool → ℕ → List Expression → List Token → Outcome (List Expression ⊎ List Expression)
+  after_argument true r found ts = do
+    comma ← take r ts
+    Ok (inl found, comma.1)
+  after_argument false r found ts = do
+    closed ← expect (sign (codes ")")) r ts
+    Ok (inr found, closed.1)
+
+  abbrev pub argument : ℕ → List Expression → List Token → Outcome (List Expression ⊎ List Expression)
+  argument r found ts = do
+    x ← again Assign r ts
+    after_argument (same (kind_of x.1) (sign (codes ","))) r (found ++ x.0 ∷ []) x.1
+
+  -- through the closing parenthesis
+  abbrev pub arguments_by : Bool → ℕ → List Token → Outcome (List Expression)
+  arguments_by true r ts = do
+    closed ← take r ts
+    Ok ([], closed.1)
+  arguments_by false r ts = turns (argument r) (length ts) [] ts
+
+  -- behind the opening parenthesis
+  abbrev pub call : Callee → Place → ℕ → List Token → Outcome Expression
+  call callee place r ts = do
+    found ← arguments_by (closes (kind_of ts)) r ts
+    Ok (Called callee (row found.0) place, found.1)
+
+  abbrev pub after_name : Bool → List ℕ → Place → ℕ → List Token → Outcome Expression
+  after_name true n place r ts = do
+    opened ← take r ts
+    call (c.Name n) place r opened.1
+  after_name false n place r ts = Ok (Variable n place, ts)
+
+  abbrev pub reserved : Bool → Option Callee → ℕ → List Token → Outcome Expression
+  reserved true callee r ts = do
+    first ← take r ts
+    Ok (EndOfFile first.0.place, first.1)
+  reserved false (Some callee) r ts = do
+    first ← take r ts
+    opened ← expect (sign (codes "(")) r first.1
+    call callee first.0.place r opened.1
+  reserved false None r ts = refuse ts
+
+  abbrev pub primary_by : Kind → Bool → Option Callee → ℕ → List Token → Outcome Expression
+  primary_by (k.Name n) eof callee r ts = do
+    first ← take r ts
+    after_name (opens (kind_of first.1)) n first.0.place r first.1
+  primary_by (k.Number ty v) eof callee r ts = do
+    first ← take r ts
+    Ok (Numeral (shape ty) v first.0.place, first.1)
+  primary_by (k.Character v) eof callee r ts = do
+    first ← take r ts
+    Ok (Letter v first.0.place, first.1)
+  primary_by _ eof callee r ts = reserved eof callee r ts
+
+  abbrev pub primary : ℕ → List Token → Outcome Expression
+  primary r ts = primary_by (kind_of ts) (is_eof (kind_of ts)) (builtin (kind_of ts)) r ts
+
+  -- behind `(`: a cast, at that place, or an expression in parentheses
+  abbrev pub after_open : Bool → Place → ℕ → List Token → Outcome Expression
+  after_open true place r ts = do
+    to ← base r ts
+    closed ← expect (sign (codes ")")) r to.1
+    x ← again UnaryRule r closed.1
+    Ok (Converted to.0 x.0 place, x.1)
+  after_open false place r ts = do
+    x ← again Assign r ts
+    closed ← expect (sign (codes ")")) r x.1
+    suffixes_from r x.0 closed.1
+
+  abbrev pub unary_by : Option Unary → Option Step → Bool → ℕ → List Token → Outcome Expression
+  unary_by (Some o) how opened r ts = do
+    mark ← take r ts
+    x ← again UnaryRule r mark.1
+    Ok (Prefix o x.0 mark.0.place, x.1)
+  unary_by None (Some how) opened r ts = do
+    mark ← take r ts
+    x ← again UnaryRule r mark.1
+    Ok (Stepped how x.0 mark.0.place, x.1)
+  unary_by None None true r ts = do
+    opened ← take r ts
+    after_open (is_base (kind_of opened.1)) opened.0.place r opened.1
+  unary_by None None false r ts = do
+    x ← primary r ts
+    suffixes_from r x.0 x.1
+
+  unfoldable pub unary_inside : ℕ → List Token → Outcome Expression
+  unary_inside r ts = unary_by (prefix_op (kind_of ts)) (first_step (kind_of ts)) (opens (kind_of ts)) r ts
+
+  abbrev pub inside : Rule → ℕ → List Token → Outcome Expression
+  inside Assign r ts = assign_inside r ts
+  inside Cond r ts = cond_inside r ts
+  inside UnaryRule r ts = unary_inside r ts
+
+-- The first number bounds how deep rules nest.
+unfoldable pub rule : ℕ → Rule → ℕ → List Token → Outcome Expression
+rule zero which r ts = Err (fault_at_start ts)
+rule (suc f) which zero ts = Err (fault_at_start ts)
+rule (suc f) which (suc r) ts = inside (rule f) which r ts
+
+-- a rule with as much depth as room
+abbrev pub ruled : Rule → ℕ → List Token → Outcome Expression
+ruled which r ts = rule r which r ts

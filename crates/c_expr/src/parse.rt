@@ -1,0 +1,423 @@
+//! Recursive descent. Each function reads a rule from the front of the tokens, and answers its tree and what is left.
+
+ghost use Rattle.std.specs.Prelude.{◌≡◌, ◌≤◌, ◌<◌, [], ◌∷◌, length, map, option_map, IfOk};
+ghost use Rattle.c_tree.specs.View.{shape, expression};
+ghost use Rattle.c_expr.specs.Reading as read;
+ghost use Rattle.c_expr.specs.Reading.{Gives};
+ghost use Rattle.c_expr.specs.Spelled as spelled;
+
+use crate::fault::ParseFault;
+use crate::node;
+use crate::reader::{expect, place_of, take};
+use crate::rule::Rule;
+use crate::spelled::{
+    assign_op, binary_op, first_step, is_sign, is_word, last_step, prefix_op, rank,
+};
+use c_token::{Kind, Token};
+use c_tree::{Binary, CType, Callee, Expr, Name, Place};
+use std::alloc::Global;
+
+/// A base that is one word.
+fn plain_base(rest: &[Token]) -> Option<CType>
+    ensures { option_map shape result ≡ spelled.plain_base (read.kind_of rest.now) }
+{
+    if is_word(rest, "int") {
+        Some(CType::Int)
+    } else if is_word(rest, "char") {
+        Some(CType::Char)
+    } else {
+        None
+    }
+}
+
+/// Whether the next token begins a base.
+pub fn is_base(rest: &[Token]) -> bool
+    ensures { result ≡ read.is_base (read.kind_of rest.now) }
+{
+    plain_base(rest).is_some() || is_word(rest, "unsigned")
+}
+
+/// A base (C11 6.7.2).
+pub fn base(rest: &[Token], room: u32) -> Result<(CType, &[Token]), ParseFault>
+    ensures { Gives (λ x. (shape x.0, x.1.now)) result (read.base room rest.now) }
+{
+    if let Some(plain) = plain_base(rest) {
+        let (_, rest) = take(rest, room)?;
+        Ok((plain, rest))
+    } else if is_word(rest, "unsigned") {
+        let (_, rest) = take(rest, room)?;
+        after_unsigned(rest, room)
+    } else {
+        Err(ParseFault::Unexpected(place_of(rest)))
+    }
+}
+
+fn after_unsigned(rest: &[Token], room: u32) -> Result<(CType, &[Token]), ParseFault>
+    ensures { Gives (λ x. (shape x.0, x.1.now)) result (read.after_unsigned (spelled.plain_base (read.kind_of rest.now)) room rest.now) }
+{
+    if is_word(rest, "int") {
+        let (_, rest) = take(rest, room)?;
+        Ok((CType::Unsigned, rest))
+    } else if is_word(rest, "char") {
+        let (_, rest) = take(rest, room)?;
+        Ok((CType::Char, rest))
+    } else {
+        Ok((CType::Unsigned, rest))
+    }
+}
+
+/// The callee that is a reserved word.
+fn builtin(rest: &[Token]) -> Option<Callee>
+    ensures { result ≡ spelled.builtin (read.kind_of rest.now) }
+{
+    if is_word(rest, "getchar") {
+        Some(Callee::Getchar)
+    } else if is_word(rest, "putchar") {
+        Some(Callee::Putchar)
+    } else {
+        None
+    }
+}
+
+fn is_operand(rest: &[Token]) -> bool
+    ensures { result ≡ read.operand_by (read.kind_of rest.now) (read.is_eof (read.kind_of rest.now)) (spelled.builtin (read.kind_of rest.now)) }
+{
+    match rest {
+        [
+            Token {
+                kind: Kind::Name(_),
+                ..
+            },
+            ..
+        ] => true,
+        [
+            Token {
+                kind: Kind::Number(_, _),
+                ..
+            },
+            ..
+        ] => true,
+        [
+            Token {
+                kind: Kind::Character(_),
+                ..
+            },
+            ..
+        ] => true,
+        _ => is_word(rest, "EOF") || is_word(rest, "getchar") || is_word(rest, "putchar"),
+    }
+}
+
+/// Whether the next token begins an expression.
+fn begins(rest: &[Token]) -> bool
+    ensures { result ≡ read.begins (read.kind_of rest.now) }
+{
+    prefix_op(rest).is_some()
+        || first_step(rest).is_some()
+        || is_sign(rest, *b"(\0\0")
+        || is_operand(rest)
+}
+
+/// Where no rule may be opened any more.
+fn start(rest: &[Token]) -> ParseFault
+    ensures { result ≡ read.fault_at_start rest.now }
+{
+    if begins(rest) {
+        ParseFault::TooDeep(place_of(rest))
+    } else {
+        ParseFault::Unexpected(place_of(rest))
+    }
+}
+
+fn operator_of(at: u32, rest: &[Token]) -> Option<Binary>
+    ensures { result ≡ read.operator_of at (read.kind_of rest.now) }
+{
+    match binary_op(rest) {
+        Some(operator) if rank(operator) == at => Some(operator),
+        _ => None,
+    }
+}
+
+/// Opens a rule, which adds a level.
+#[tactic(auto, using(crate::proofs::Depth::ruled_open, crate::proofs::Depth::ruled_stop))]
+#[cycle(rules)]
+pub(crate) fn open_rule(
+    alloc: Global,
+    which: Rule,
+    rest: &[Token],
+    room: u32,
+) -> Result<(Expr, &[Token]), ParseFault>
+    ensures { Gives (λ x. (expression x.0, x.1.now)) result (read.ruled which room rest.now) }
+{
+    if room == 0 {
+        return Err(start(rest));
+    }
+    match which {
+        Rule::Assign => assign(alloc, rest, room - 1),
+        Rule::Cond => cond(alloc, rest, room - 1),
+        Rule::Unary => unary(alloc, rest, room - 1),
+    }
+}
+
+/// An expression that may be an assignment (C11 6.5.16).
+#[tactic(auto, unfolding(crate::specs::Reading::assign_inside))]
+#[cycle(rules)]
+fn assign(alloc: Global, rest: &[Token], room: u32) -> Result<(Expr, &[Token]), ParseFault>
+    ensures { Gives (λ x. (expression x.0, x.1.now)) result (read.assign_inside read.ruled room rest.now) }
+{
+    let (left, rest) = open_rule(alloc, Rule::Cond, rest, room)?;
+    match assign_op(rest) {
+        Some(how) => {
+            let (mark, rest) = take(rest, room)?;
+            let (right, rest) = open_rule(alloc, Rule::Assign, rest, room)?;
+            Ok((node::stored(alloc, how, left, right, mark.place)?, rest))
+        }
+        None => Ok((left, rest)),
+    }
+}
+
+/// A conditional expression (C11 6.5.15).
+#[tactic(auto, unfolding(crate::specs::Reading::cond_inside))]
+#[cycle(rules)]
+fn cond(alloc: Global, rest: &[Token], room: u32) -> Result<(Expr, &[Token]), ParseFault>
+    ensures { Gives (λ x. (expression x.0, x.1.now)) result (read.cond_inside read.ruled room rest.now) }
+{
+    let (test, rest) = binary(alloc, rest, room, 10)?;
+    if !is_sign(rest, *b"?\0\0") {
+        return Ok((test, rest));
+    }
+    let (mark, rest) = take(rest, room)?;
+    let (yes, rest) = open_rule(alloc, Rule::Assign, rest, room)?;
+    let (_, rest) = expect(*b":\0\0", rest, room)?;
+    let (no, rest) = open_rule(alloc, Rule::Cond, rest, room)?;
+    Ok((node::choice(alloc, test, yes, no, mark.place)?, rest))
+}
+
+/// Operands that are joined by operators of this rank and of tighter ones (C11 6.5.5 to 6.5.14).
+#[tactic(auto, unfolding(crate::specs::Reading::binary))]
+#[cycle(rules)]
+fn binary(
+    alloc: Global,
+    tokens: &[Token],
+    mut room: u32,
+    at: u32,
+) -> Result<(Expr, &[Token]), ParseFault>
+    ensures { Gives (λ x. (expression x.0, x.1.now)) result (read.binary read.ruled at room tokens.now) }
+{
+    if at == 0 {
+        return open_rule(alloc, Rule::Unary, tokens, room);
+    }
+    let (mut left, mut rest) = binary(alloc, tokens, room, at - 1)?;
+    while let Some(operator) = operator_of(at, rest) {
+        let (mark, after) = take(rest, room)?;
+        room -= 1;
+        let (right, after) = binary(alloc, after, room, at - 1)?;
+        left = node::infix(alloc, operator, left, right, mark.place)?;
+        rest = after;
+    }
+    Ok((left, rest))
+}
+
+/// An expression that operators stand before or behind, or none (C11 6.5.3 and 6.5.4).
+#[tactic(auto, unfolding(crate::specs::Reading::unary_inside))]
+#[cycle(rules)]
+fn unary(alloc: Global, rest: &[Token], room: u32) -> Result<(Expr, &[Token]), ParseFault>
+    ensures { Gives (λ x. (expression x.0, x.1.now)) result (read.unary_inside read.ruled room rest.now) }
+{
+    if let Some(op) = prefix_op(rest) {
+        let (mark, rest) = take(rest, room)?;
+        let (of, rest) = open_rule(alloc, Rule::Unary, rest, room)?;
+        Ok((node::prefix(alloc, op, of, mark.place)?, rest))
+    } else if let Some(how) = first_step(rest) {
+        let (mark, rest) = take(rest, room)?;
+        let (of, rest) = open_rule(alloc, Rule::Unary, rest, room)?;
+        Ok((node::stepped(alloc, how, of, mark.place)?, rest))
+    } else if is_sign(rest, *b"(\0\0") {
+        let (opened, rest) = take(rest, room)?;
+        after_open(alloc, opened.place, rest, room)
+    } else {
+        let (of, rest) = primary(alloc, rest, room)?;
+        suffixes(alloc, of, rest, room)
+    }
+}
+
+/// Behind a parenthesis: a cast, or an expression in parentheses.
+#[tactic(auto)]
+#[cycle(rules)]
+fn after_open(
+    alloc: Global,
+    place: Place,
+    rest: &[Token],
+    room: u32,
+) -> Result<(Expr, &[Token]), ParseFault>
+    ensures { Gives (λ x. (expression x.0, x.1.now)) result (read.after_open read.ruled (read.is_base (read.kind_of rest.now)) place room rest.now) }
+{
+    if is_base(rest) {
+        let (to, rest) = base(rest, room)?;
+        let (_, rest) = expect(*b")\0\0", rest, room)?;
+        let (of, rest) = open_rule(alloc, Rule::Unary, rest, room)?;
+        Ok((node::converted(alloc, to, of, place)?, rest))
+    } else {
+        let (inner, rest) = open_rule(alloc, Rule::Assign, rest, room)?;
+        let (_, rest) = expect(*b")\0\0", rest, room)?;
+        suffixes(alloc, inner, rest, room)
+    }
+}
+
+/// The suffixes behind an expression (C11 6.5.2.1 and 6.5.2.4).
+#[tactic(auto)]
+#[cycle(rules)]
+fn suffixes(
+    alloc: Global,
+    first: Expr,
+    tokens: &[Token],
+    mut room: u32,
+) -> Result<(Expr, &[Token]), ParseFault>
+    ensures { Gives (λ x. (expression x.0, x.1.now)) result (read.suffixes_from read.ruled room (expression first) tokens.now) }
+{
+    let mut value = first;
+    let mut rest = tokens;
+    loop {
+        if is_sign(rest, *b"[\0\0") {
+            let (opened, after) = take(rest, room)?;
+            let (index, after) = open_rule(alloc, Rule::Assign, after, room)?;
+            let (_, after) = expect(*b"]\0\0", after, room)?;
+            value = node::element(alloc, value, index, opened.place)?;
+            rest = after;
+        } else if let Some(how) = last_step(rest) {
+            let (mark, after) = take(rest, room)?;
+            value = node::stepped(alloc, how, value, mark.place)?;
+            rest = after;
+        } else {
+            return Ok((value, rest));
+        }
+        room -= 1;
+    }
+}
+
+/// A name, a call, or a constant (C11 6.5.1 and 6.5.2.2).
+#[tactic(auto)]
+#[cycle(rules)]
+fn primary(alloc: Global, rest: &[Token], room: u32) -> Result<(Expr, &[Token]), ParseFault>
+    ensures { Gives (λ x. (expression x.0, x.1.now)) result (read.primary read.ruled room rest.now) }
+{
+    match rest {
+        [
+            Token {
+                kind: Kind::Name(name),
+                ..
+            },
+            ..
+        ] => {
+            let (first, rest) = take(rest, room)?;
+            named(alloc, name, first.place, rest, room)
+        }
+        [
+            Token {
+                kind: Kind::Number(ty, value),
+                ..
+            },
+            ..
+        ] => {
+            let (first, rest) = take(rest, room)?;
+            let ty = node::type_again(alloc, ty)?;
+            Ok((node::numeral(ty, *value, first.place), rest))
+        }
+        [
+            Token {
+                kind: Kind::Character(code),
+                ..
+            },
+            ..
+        ] => {
+            let (first, rest) = take(rest, room)?;
+            Ok((node::letter(*code, first.place), rest))
+        }
+        _ => reserved(alloc, rest, room),
+    }
+}
+
+/// A primary expression that begins with a reserved word.
+#[tactic(auto)]
+#[cycle(rules)]
+fn reserved(alloc: Global, rest: &[Token], room: u32) -> Result<(Expr, &[Token]), ParseFault>
+    ensures { Gives (λ x. (expression x.0, x.1.now)) result (read.reserved read.ruled (read.is_eof (read.kind_of rest.now)) (spelled.builtin (read.kind_of rest.now)) room rest.now) }
+{
+    if is_word(rest, "EOF") {
+        let (first, rest) = take(rest, room)?;
+        Ok((node::end_of_file(first.place), rest))
+    } else if let Some(callee) = builtin(rest) {
+        let (first, rest) = take(rest, room)?;
+        let (_, rest) = expect(*b"(\0\0", rest, room)?;
+        call(alloc, callee, first.place, rest, room)
+    } else {
+        Err(ParseFault::Unexpected(place_of(rest)))
+    }
+}
+
+/// A name, or a call of it.
+#[tactic(auto)]
+#[cycle(rules)]
+fn named<'a>(
+    alloc: Global,
+    name: &Name,
+    place: Place,
+    rest: &'a [Token],
+    room: u32,
+) -> Result<(Expr, &'a [Token]), ParseFault>
+    ensures { Gives (λ x. (expression x.0, x.1.now)) result (read.after_name read.ruled (read.opens (read.kind_of rest.now)) name.now place room rest.now) }
+{
+    let name = name.again(alloc)?;
+    if is_sign(rest, *b"(\0\0") {
+        let (_, rest) = take(rest, room)?;
+        call(alloc, Callee::Name(name), place, rest, room)
+    } else {
+        Ok((node::variable(name, place), rest))
+    }
+}
+
+/// A call, behind its parenthesis.
+#[tactic(auto)]
+#[cycle(rules)]
+fn call(
+    alloc: Global,
+    callee: Callee,
+    place: Place,
+    rest: &[Token],
+    room: u32,
+) -> Result<(Expr, &[Token]), ParseFault>
+    ensures { Gives (λ x. (expression x.0, x.1.now)) result (read.call read.ruled callee place room rest.now) }
+{
+    let (found, rest) = arguments(alloc, rest, room)?;
+    Ok((node::called(callee, found, place), rest))
+}
+
+/// The arguments of a call and the closing parenthesis.
+#[tactic(auto)]
+#[cycle(rules)]
+fn arguments(
+    alloc: Global,
+    tokens: &[Token],
+    room: u32,
+) -> Result<(Vec<Expr>, &[Token]), ParseFault>
+    ensures { Gives (λ x. (map expression x.0.items, x.1.now)) result (read.arguments_by read.ruled (read.closes (read.kind_of tokens.now)) room tokens.now) }
+{
+    let mut found = Vec::new(alloc);
+    if is_sign(tokens, *b")\0\0") {
+        let (_, rest) = take(tokens, room)?;
+        return Ok((found, rest));
+    }
+    let mut rest = tokens;
+    for _ in 0..tokens.len() {
+        let (value, after) = open_rule(alloc, Rule::Assign, rest, room)?;
+        found.push(value)?;
+        if is_sign(after, *b",\0\0") {
+            let (_, after) = take(after, room)?;
+            rest = after;
+        } else {
+            let (_, after) = expect(*b")\0\0", after, room)?;
+            return Ok((found, after));
+        }
+    }
+    Err(ParseFault::Unexpected(place_of(rest)))
+}

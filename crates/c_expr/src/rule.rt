@@ -1,0 +1,8 @@
+//! The rules that add a level.
+
+#[derive(Clone, Copy)]
+pub(crate) enum Rule {
+    Assign,
+    Cond,
+    Unary,
+}
