@@ -12,9 +12,6 @@ mod unique;
 
 pub use answer::{parse_cond, parse_expr};
 pub use fault::ParseFault;
-pub use parse::{base, is_base};
-pub use reader::{expect, place_of, take};
-pub use spelled::{is_sign, is_word};
 pub use unique::{one_answer, one_tree};
 
 #[cfg(test)]
