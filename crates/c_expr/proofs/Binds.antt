@@ -10,7 +10,8 @@ use Rattle.c_tree.specs.declared.tree.Callee.{Callee}
 use Rattle.c_token.specs.declared.token.Kind.{Kind}
 use Rattle.c_token.specs.declared.token.Kind.TheVariants as k
 use Rattle.c_expr.specs.Spelled.{sign, same, find, assign_op, binary_op, rank, prefix_op, first_step, last_step, builtin, plain_base, assign_ops, binary_ops, first_steps, last_steps, builtins, plain_bases}
-use Rattle.c_expr.specs.Reading.{of_rank, operator_of, begins, begins_by, operand_by, is_eof, opens, is_base, is_base_by, is_unsigned}
+use Rattle.c_expr.specs.Next.{begins, begins_by, operand_by, is_eof, opens, is_base, is_base_by, is_unsigned}
+use Rattle.c_expr.specs.Reading.{of_rank, operator_of}
 use Rattle.c_expr.proofs.Words.{same_is}
 
 -- of each entry of a table

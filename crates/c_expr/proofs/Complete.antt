@@ -17,7 +17,8 @@ use Rattle.c_expr.specs.Leveled.{Leveled, at, tokens_of}
 use Rattle.c_expr.specs.Spelled.{sign, same, assign_op, binary_op, rank, prefix_op, first_step, last_step, builtin, plain_base}
 use Rattle.c_expr.specs.Grammar as g
 use Rattle.c_expr.specs.Grammar.{IsBase, IsAssign, IsCond, IsBinary, IsChain, IsUnary, IsPostfix, IsPrimary, IsCallee, IsArguments, IsListed}
-use Rattle.c_expr.specs.Reading.{Outcome, ◌>>=◌, kind_of, take, expect, of_rank, operator_of, chain_step, chain_from, assign_inside, after_condition, cond_inside, after_test, binary, suffix_step, suffixes_from, rule, begins, argument, arguments_by, after_argument, call, after_name, reserved, primary, primary_by, after_open, unary_by, unary_inside, turn, turns, base, base_by, after_unsigned, is_base, is_base_by, is_unsigned, is_eof, opens, closes}
+use Rattle.c_expr.specs.Next.{Outcome, ◌>>=◌, kind_of, take, expect, begins, base, base_by, after_unsigned, is_base, is_base_by, is_unsigned, is_eof, opens, closes}
+use Rattle.c_expr.specs.Reading.{of_rank, operator_of, chain_step, chain_from, assign_inside, after_condition, cond_inside, after_test, binary, suffix_step, suffixes_from, rule, argument, arguments_by, after_argument, call, after_name, reserved, primary, primary_by, after_open, unary_by, unary_inside, turn, turns}
 use Rattle.c_expr.proofs.Words.{same_is}
 use Rattle.c_expr.proofs.Opens.{suffixes_stop}
 use Rattle.c_expr.proofs.Sound.{chain_stops, unary_is}

@@ -15,7 +15,8 @@ use Rattle.c_token.specs.declared.token.Kind.TheVariants as k
 use Rattle.c_expr.specs.declared.rule.Rule.{Rule}
 use Rattle.c_expr.specs.declared.rule.Rule.TheVariants.{Assign, Cond, Unary as UnaryRule}
 use Rattle.c_expr.specs.Spelled.{sign, same, assign_op, prefix_op, first_step, last_step, builtin, lor}
-use Rattle.c_expr.specs.Reading.{Outcome, ◌>>=◌, kind_of, take, expect, operator_of, chain_step, chain_from, assign_inside, after_condition, cond_inside, after_test, binary, suffix_step, suffixes_from, rule, argument, arguments_by, after_argument, call, after_name, reserved, primary_by, base, is_base, is_eof, opens, closes, after_open, unary_by, unary_inside, turn, turns, inside, ruled, fault_at_start}
+use Rattle.c_expr.specs.Next.{Outcome, ◌>>=◌, kind_of, take, expect, base, is_base, is_eof, opens, closes, fault_at_start}
+use Rattle.c_expr.specs.Reading.{operator_of, chain_step, chain_from, assign_inside, after_condition, cond_inside, after_test, binary, suffix_step, suffixes_from, rule, argument, arguments_by, after_argument, call, after_name, reserved, primary_by, after_open, unary_by, unary_inside, turn, turns, inside, ruled}
 
 bind_same : {X Y : Type 0} (o : Outcome X) (f g : X × List Token → Outcome Y) → ((x : X × List Token) → f x ≡ g x) → (o >>= f) ≡ (o >>= g)
 bind_same (Ok x) f g h = h x

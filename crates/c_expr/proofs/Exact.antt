@@ -13,7 +13,8 @@ use Rattle.c_expr.specs.declared.fault.ParseFault.TheVariants.{Unexpected, TooDe
 use Rattle.c_expr.specs.declared.rule.Rule.{Rule}
 use Rattle.c_expr.specs.declared.rule.Rule.TheVariants.{Assign, Cond, Unary as UnaryRule}
 use Rattle.c_expr.specs.Leveled.{Leveled, tokens_of, AreBelow}
-use Rattle.c_expr.specs.Reading.{Outcome, rule, ruled, kind_of, place_of, nowhere, Fails}
+use Rattle.c_expr.specs.Next.{Outcome, kind_of, place_of, nowhere, Fails}
+use Rattle.c_expr.specs.Reading.{rule, ruled}
 use Rattle.c_expr.specs.Rules.{IsRule}
 use Rattle.c_expr.specs.Parsing.{GoesNoFurther, IsRead, IsUnexpected, Parsed, ParsedAt, IsEnded}
 use Rattle.c_expr.proofs.Law.{Law, Looks, plain, AreLow}

@@ -7,7 +7,8 @@ use Rattle.c_token.specs.declared.token.Kind.{Kind}
 use Rattle.c_token.specs.declared.token.Kind.TheVariants as k
 use Rattle.c_tree.specs.declared.place.Place.{Place}
 use Rattle.c_expr.specs.Leveled.{Leveled, at, tokens_of}
-use Rattle.c_expr.specs.Reading.{Outcome, ◌>>=◌, kind_of, place_of, nowhere, refuse, take, turn, turns}
+use Rattle.c_expr.specs.Next.{Outcome, ◌>>=◌, kind_of, place_of, nowhere, refuse, take}
+use Rattle.c_expr.specs.Reading.{turn, turns}
 
 pub tokens_append : (a b : List Leveled) → tokens_of (a ++ b) ≡ tokens_of a ++ tokens_of b
 tokens_append [] b = refl

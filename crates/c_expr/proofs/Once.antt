@@ -7,7 +7,8 @@ use Rattle.c_expr.specs.declared.fault.ParseFault.{ParseFault}
 use Rattle.c_expr.specs.declared.fault.ParseFault.TheVariants.{Unexpected, TooDeep, OutOfMemory}
 use Rattle.c_expr.specs.declared.rule.Rule.{Rule}
 use Rattle.c_expr.specs.Leveled.{Leveled, tokens_of, AreBelow}
-use Rattle.c_expr.specs.Reading.{Outcome, rule, place_of}
+use Rattle.c_expr.specs.Next.{Outcome, place_of}
+use Rattle.c_expr.specs.Reading.{rule}
 use Rattle.c_expr.specs.Rules.{IsRule}
 use Rattle.c_expr.specs.Parsing.{GoesNoFurther, IsRead, IsUnexpected, IsTooDeep, Begins, Parsed, Agrees}
 use Rattle.c_expr.proofs.Law.{tokens_append}

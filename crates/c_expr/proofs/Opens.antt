@@ -4,7 +4,8 @@ use Rattle.c_tree.specs.Syntax.{Expression}
 use Rattle.c_token.specs.declared.token.Token.{Token}
 use Rattle.c_expr.specs.declared.rule.Rule.{Rule}
 use Rattle.c_expr.specs.Spelled.{same, sign, last_step}
-use Rattle.c_expr.specs.Reading.{Outcome, rule, inside, fault_at_start, binary, chain_from, ◌>>=◌, suffix_step, suffixes_from, kind_of, arguments_by, argument, turns}
+use Rattle.c_expr.specs.Next.{Outcome, fault_at_start, ◌>>=◌, kind_of}
+use Rattle.c_expr.specs.Reading.{rule, inside, binary, chain_from, suffix_step, suffixes_from, arguments_by, argument, turns}
 use Rattle.std.specs.Prelude.{codes, Bool, Option}
 use Rattle.c_tree.specs.declared.operator.Step.{Step}
 

@@ -6,7 +6,7 @@ use Rattle.c_token.specs.declared.token.Kind.{Kind}
 use Rattle.c_expr.specs.Leveled.{Leveled}
 use Rattle.c_expr.specs.Grammar as g
 use Rattle.c_expr.specs.Grammar.{IsAssign, IsCond, IsBinary, IsChain, IsUnary, IsPostfix, IsPrimary, IsCallee, IsListed}
-use Rattle.c_expr.specs.Reading.{begins}
+use Rattle.c_expr.specs.Next.{begins}
 use Rattle.c_expr.proofs.Through.{Raised, raised_append, raised_less}
 use Rattle.c_expr.proofs.Binds.{prefix_begins, step_begins, builtin_begins}
 

@@ -14,7 +14,8 @@ use Rattle.c_expr.specs.declared.rule.Rule.{Rule}
 use Rattle.c_expr.specs.declared.rule.Rule.TheVariants.{Assign, Cond, Unary as UnaryRule}
 use Rattle.c_expr.specs.Leveled.{Leveled, at, tokens_of}
 use Rattle.c_expr.specs.Spelled.{sign, same, assign_op, lor, prefix_op, first_step, builtin}
-use Rattle.c_expr.specs.Reading.{Outcome, ◌>>=◌, kind_of, place_of, nowhere, refuse, chain_from, assign_inside, after_condition, cond_inside, after_test, binary, suffixes_from, rule, begins, begins_by, operand_by, primary_by, unary_by, unary_inside, inside, is_eof, opens}
+use Rattle.c_expr.specs.Next.{Outcome, ◌>>=◌, kind_of, place_of, nowhere, refuse, begins, begins_by, operand_by, is_eof, opens}
+use Rattle.c_expr.specs.Reading.{chain_from, assign_inside, after_condition, cond_inside, after_test, binary, suffixes_from, rule, primary_by, unary_by, unary_inside, inside}
 use Rattle.c_expr.specs.Rules.{IsRule}
 use Rattle.c_expr.proofs.Law.{Lawful, Some_of, Looks, weaken, plain}
 use Rattle.c_expr.proofs.Opens as o

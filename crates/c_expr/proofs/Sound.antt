@@ -19,7 +19,8 @@ use Rattle.c_expr.specs.Spelled.{sign, same, assign_op, binary_op, rank, lor, pr
 use Rattle.c_expr.specs.Grammar as g
 use Rattle.c_expr.specs.Grammar.{IsBase, IsAssign, IsCond, IsBinary, IsChain, IsUnary, IsPostfix, IsPrimary, IsCallee, IsArguments, IsListed}
 use Rattle.c_expr.specs.Rules.{IsRule}
-use Rattle.c_expr.specs.Reading.{Outcome, ◌>>=◌, kind_of, nowhere, refuse, take, expect, of_rank, operator_of, chain_step, chain_from, assign_inside, after_condition, cond_inside, after_test, binary, suffix_step, suffixes_from, rule, begins, begins_by, operand_by, argument, arguments_by, after_argument, call, after_name, reserved, primary, primary_by, after_open, unary_by, unary_inside, inside, base, base_by, after_unsigned, unsigned_of, is_unsigned, is_base, is_eof, opens, closes}
+use Rattle.c_expr.specs.Next.{Outcome, ◌>>=◌, kind_of, nowhere, refuse, take, expect, begins, begins_by, operand_by, base, base_by, after_unsigned, unsigned_of, is_unsigned, is_base, is_eof, opens, closes}
+use Rattle.c_expr.specs.Reading.{of_rank, operator_of, chain_step, chain_from, assign_inside, after_condition, cond_inside, after_test, binary, suffix_step, suffixes_from, rule, argument, arguments_by, after_argument, call, after_name, reserved, primary, primary_by, after_open, unary_by, unary_inside, inside}
 use Rattle.c_expr.proofs.Law.{Lawful, Some_of, some_of, Looks, bind_law, weaken, pure_law, ended, stop_law, refuse_law, take_law, deep_law, look_law, Turn, turns_law, plain}
 use Rattle.c_expr.proofs.Opens.{suffixes_stop}
 use Rattle.c_expr.proofs.Words.{same_is, not_end, some_not_end}

@@ -7,7 +7,8 @@ use Rattle.c_token.specs.declared.token.Token.{Token}
 use Rattle.c_expr.specs.declared.fault.ParseFault.TheVariants.{Unexpected, TooDeep}
 use Rattle.c_expr.specs.declared.rule.Rule.{Rule}
 use Rattle.c_expr.specs.Leveled.{Leveled, tokens_of, AreBelow}
-use Rattle.c_expr.specs.Reading.{Outcome, ◌>>=◌, kind_of, take, rule, inside, begins, fault_at_start}
+use Rattle.c_expr.specs.Next.{Outcome, ◌>>=◌, kind_of, take, begins, fault_at_start}
+use Rattle.c_expr.specs.Reading.{rule, inside}
 use Rattle.c_expr.proofs.Opens as open_
 
 abbrev pub Follows : ℕ → List Leveled → List Token → List Token → Type 0

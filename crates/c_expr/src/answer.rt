@@ -1,6 +1,6 @@
 //! Expressions at a place of a list of tokens.
 
-ghost use Rattle.std.specs.Prelude.{◌≡◌, ◌<◌, length};
+ghost use Rattle.std.specs.Prelude.{◌<◌, length};
 ghost use Rattle.c_expr.specs.Grammar.{IsAssign, IsCond};
 ghost use Rattle.c_expr.specs.Parsing.{ParsedAt, IsEnded};
 ghost use Rattle.c_expr.specs.Rules.{IsRule};

@@ -134,20 +134,3 @@ pub(crate) fn element(
     let kind = ExprKind::Index(Box::new(alloc, array)?, Box::new(alloc, index)?);
     Ok(Expr { kind, place })
 }
-
-/// A type again.
-pub(crate) fn type_again(alloc: Global, ty: &CType) -> Result<CType, OutOfMemory>
-    ensures { IfOk result (λ copy. shape copy ≡ shape ty.now) }
-{
-    match ty {
-        CType::Int => Ok(CType::Int),
-        CType::Unsigned => Ok(CType::Unsigned),
-        CType::Char => Ok(CType::Char),
-        CType::Void => Ok(CType::Void),
-        CType::Pointer(to) => Ok(CType::Pointer(Box::new(alloc, type_again(alloc, to)?)?)),
-        CType::Array(of, count) => Ok(CType::Array(
-            Box::new(alloc, type_again(alloc, of)?)?,
-            *count,
-        )),
-    }
-}

@@ -1,136 +1,27 @@
 //! Recursive descent. Each function reads a rule from the front of the tokens, and answers its tree and what is left.
 
-ghost use Rattle.std.specs.Prelude.{◌≡◌, ◌≤◌, ◌<◌, [], ◌∷◌, length, map, option_map, IfOk};
-ghost use Rattle.c_tree.specs.View.{shape, expression};
+ghost use Rattle.std.specs.Prelude.{◌≡◌, ◌<◌, map};
+ghost use Rattle.c_tree.specs.View.{expression};
+ghost use Rattle.c_expr.specs.Next as next;
 ghost use Rattle.c_expr.specs.Reading as read;
-ghost use Rattle.c_expr.specs.Reading.{Gives};
+ghost use Rattle.c_expr.specs.Next.{Gives};
 ghost use Rattle.c_expr.specs.Spelled as spelled;
 
+use crate::bases::{base, is_base};
 use crate::fault::ParseFault;
 use crate::node;
+use crate::opening::{builtin, start};
 use crate::reader::{expect, place_of, take};
 use crate::rule::Rule;
 use crate::spelled::{
     assign_op, binary_op, first_step, is_sign, is_word, last_step, prefix_op, rank,
 };
 use c_token::{Kind, Token};
-use c_tree::{Binary, CType, Callee, Expr, Name, Place};
+use c_tree::{Binary, Callee, Expr, Name, Place};
 use std::alloc::Global;
 
-/// A base that is one word.
-fn plain_base(rest: &[Token]) -> Option<CType>
-    ensures { option_map shape result ≡ spelled.plain_base (read.kind_of rest.now) }
-{
-    if is_word(rest, "int") {
-        Some(CType::Int)
-    } else if is_word(rest, "char") {
-        Some(CType::Char)
-    } else {
-        None
-    }
-}
-
-/// Whether the next token begins a base.
-pub fn is_base(rest: &[Token]) -> bool
-    ensures { result ≡ read.is_base (read.kind_of rest.now) }
-{
-    plain_base(rest).is_some() || is_word(rest, "unsigned")
-}
-
-/// A base (C11 6.7.2).
-pub fn base(rest: &[Token], room: u32) -> Result<(CType, &[Token]), ParseFault>
-    ensures { Gives (λ x. (shape x.0, x.1.now)) result (read.base room rest.now) }
-{
-    if let Some(plain) = plain_base(rest) {
-        let (_, rest) = take(rest, room)?;
-        Ok((plain, rest))
-    } else if is_word(rest, "unsigned") {
-        let (_, rest) = take(rest, room)?;
-        after_unsigned(rest, room)
-    } else {
-        Err(ParseFault::Unexpected(place_of(rest)))
-    }
-}
-
-fn after_unsigned(rest: &[Token], room: u32) -> Result<(CType, &[Token]), ParseFault>
-    ensures { Gives (λ x. (shape x.0, x.1.now)) result (read.after_unsigned (spelled.plain_base (read.kind_of rest.now)) room rest.now) }
-{
-    if is_word(rest, "int") {
-        let (_, rest) = take(rest, room)?;
-        Ok((CType::Unsigned, rest))
-    } else if is_word(rest, "char") {
-        let (_, rest) = take(rest, room)?;
-        Ok((CType::Char, rest))
-    } else {
-        Ok((CType::Unsigned, rest))
-    }
-}
-
-/// The callee that is a reserved word.
-fn builtin(rest: &[Token]) -> Option<Callee>
-    ensures { result ≡ spelled.builtin (read.kind_of rest.now) }
-{
-    if is_word(rest, "getchar") {
-        Some(Callee::Getchar)
-    } else if is_word(rest, "putchar") {
-        Some(Callee::Putchar)
-    } else {
-        None
-    }
-}
-
-fn is_operand(rest: &[Token]) -> bool
-    ensures { result ≡ read.operand_by (read.kind_of rest.now) (read.is_eof (read.kind_of rest.now)) (spelled.builtin (read.kind_of rest.now)) }
-{
-    match rest {
-        [
-            Token {
-                kind: Kind::Name(_),
-                ..
-            },
-            ..
-        ] => true,
-        [
-            Token {
-                kind: Kind::Number(_, _),
-                ..
-            },
-            ..
-        ] => true,
-        [
-            Token {
-                kind: Kind::Character(_),
-                ..
-            },
-            ..
-        ] => true,
-        _ => is_word(rest, "EOF") || is_word(rest, "getchar") || is_word(rest, "putchar"),
-    }
-}
-
-/// Whether the next token begins an expression.
-fn begins(rest: &[Token]) -> bool
-    ensures { result ≡ read.begins (read.kind_of rest.now) }
-{
-    prefix_op(rest).is_some()
-        || first_step(rest).is_some()
-        || is_sign(rest, *b"(\0\0")
-        || is_operand(rest)
-}
-
-/// Where no rule may be opened any more.
-fn start(rest: &[Token]) -> ParseFault
-    ensures { result ≡ read.fault_at_start rest.now }
-{
-    if begins(rest) {
-        ParseFault::TooDeep(place_of(rest))
-    } else {
-        ParseFault::Unexpected(place_of(rest))
-    }
-}
-
 fn operator_of(at: u32, rest: &[Token]) -> Option<Binary>
-    ensures { result ≡ read.operator_of at (read.kind_of rest.now) }
+    ensures { result ≡ read.operator_of at (next.kind_of rest.now) }
 {
     match binary_op(rest) {
         Some(operator) if rank(operator) == at => Some(operator),
@@ -250,7 +141,7 @@ fn after_open(
     rest: &[Token],
     room: u32,
 ) -> Result<(Expr, &[Token]), ParseFault>
-    ensures { Gives (λ x. (expression x.0, x.1.now)) result (read.after_open read.ruled (read.is_base (read.kind_of rest.now)) place room rest.now) }
+    ensures { Gives (λ x. (expression x.0, x.1.now)) result (read.after_open read.ruled (next.is_base (next.kind_of rest.now)) place room rest.now) }
 {
     if is_base(rest) {
         let (to, rest) = base(rest, room)?;
@@ -320,7 +211,7 @@ fn primary(alloc: Global, rest: &[Token], room: u32) -> Result<(Expr, &[Token]),
             ..
         ] => {
             let (first, rest) = take(rest, room)?;
-            let ty = node::type_again(alloc, ty)?;
+            let ty = ty.again(alloc)?;
             Ok((node::numeral(ty, *value, first.place), rest))
         }
         [
@@ -341,7 +232,7 @@ fn primary(alloc: Global, rest: &[Token], room: u32) -> Result<(Expr, &[Token]),
 #[tactic(auto)]
 #[cycle(rules)]
 fn reserved(alloc: Global, rest: &[Token], room: u32) -> Result<(Expr, &[Token]), ParseFault>
-    ensures { Gives (λ x. (expression x.0, x.1.now)) result (read.reserved read.ruled (read.is_eof (read.kind_of rest.now)) (spelled.builtin (read.kind_of rest.now)) room rest.now) }
+    ensures { Gives (λ x. (expression x.0, x.1.now)) result (read.reserved read.ruled (next.is_eof (next.kind_of rest.now)) (spelled.builtin (next.kind_of rest.now)) room rest.now) }
 {
     if is_word(rest, "EOF") {
         let (first, rest) = take(rest, room)?;
@@ -365,7 +256,7 @@ fn named<'a>(
     rest: &'a [Token],
     room: u32,
 ) -> Result<(Expr, &'a [Token]), ParseFault>
-    ensures { Gives (λ x. (expression x.0, x.1.now)) result (read.after_name read.ruled (read.opens (read.kind_of rest.now)) name.now place room rest.now) }
+    ensures { Gives (λ x. (expression x.0, x.1.now)) result (read.after_name read.ruled (next.opens (next.kind_of rest.now)) name.now place room rest.now) }
 {
     let name = name.again(alloc)?;
     if is_sign(rest, *b"(\0\0") {
@@ -400,7 +291,7 @@ fn arguments(
     tokens: &[Token],
     room: u32,
 ) -> Result<(Vec<Expr>, &[Token]), ParseFault>
-    ensures { Gives (λ x. (map expression x.0.items, x.1.now)) result (read.arguments_by read.ruled (read.closes (read.kind_of tokens.now)) room tokens.now) }
+    ensures { Gives (λ x. (map expression x.0.items, x.1.now)) result (read.arguments_by read.ruled (next.closes (next.kind_of tokens.now)) room tokens.now) }
 {
     let mut found = Vec::new(alloc);
     if is_sign(tokens, *b")\0\0") {

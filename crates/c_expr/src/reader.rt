@@ -4,8 +4,8 @@
 
 ghost use Rattle.std.specs.Prelude.{◌≡◌, ◌<◌, IfOk};
 ghost use Rattle.c_token.specs.declared.token.Kind.TheVariants as k;
-ghost use Rattle.c_expr.specs.Reading as read;
-ghost use Rattle.c_expr.specs.Reading.{Gives};
+ghost use Rattle.c_expr.specs.Next as next;
+ghost use Rattle.c_expr.specs.Next.{Gives};
 
 use crate::fault::ParseFault;
 use crate::spelled::is_sign;
@@ -14,7 +14,7 @@ use c_tree::Place;
 
 /// The place of the next token.
 pub fn place_of(rest: &[Token]) -> Place
-    ensures { result ≡ read.place_of rest.now }
+    ensures { result ≡ next.place_of rest.now }
 {
     match rest {
         [] => Place { line: 0, column: 0 },
@@ -24,7 +24,7 @@ pub fn place_of(rest: &[Token]) -> Place
 
 /// Takes the next token.
 pub fn take(rest: &[Token], room: u32) -> Result<(&Token, &[Token]), ParseFault>
-    ensures value { Gives (λ x. (x.0.now, x.1.now)) result (read.take room rest.now) }
+    ensures value { Gives (λ x. (x.0.now, x.1.now)) result (next.take room rest.now) }
     ensures room { IfOk result (λ _. 0 < room) }
 {
     match rest {
@@ -36,7 +36,7 @@ pub fn take(rest: &[Token], room: u32) -> Result<(&Token, &[Token]), ParseFault>
 
 /// Takes the sign of these bytes.
 pub fn expect(bytes: [u8; 3], rest: &[Token], room: u32) -> Result<(&Token, &[Token]), ParseFault>
-    ensures { Gives (λ x. (x.0.now, x.1.now)) result (read.expect (k.Sign bytes) room rest.now) }
+    ensures { Gives (λ x. (x.0.now, x.1.now)) result (next.expect (k.Sign bytes) room rest.now) }
 {
     if is_sign(rest, bytes) {
         take(rest, room)

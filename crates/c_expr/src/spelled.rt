@@ -1,11 +1,10 @@
 //! Signs and words of the grammar.
 
 ghost use Rattle.std.specs.Prelude.{◌≡◌};
-ghost use Rattle.std.specs.Str.{bytes_eq};
 ghost use Rattle.c_token.specs.declared.token.Kind.TheVariants as k;
 ghost use Rattle.c_expr.specs.Spelled as spelled;
 ghost use Rattle.c_expr.specs.Spelled.{same};
-ghost use Rattle.c_expr.specs.Reading.{kind_of};
+ghost use Rattle.c_expr.specs.Next.{kind_of};
 
 use c_token::{Kind, Token};
 use c_tree::{Binary, Step, Unary};

@@ -1,5 +1,13 @@
+pub mod Constants
+pub mod Derived
 pub mod Erased
 pub mod Erasing
 pub mod FirstOperand
+pub mod LeastBreach
 pub mod Lists
+pub mod NoBreach
+pub mod Possible
+pub mod Related
+pub mod Typed
+pub mod TypingBreaches
 pub mod Views

@@ -1,5 +1,15 @@
+pub mod Breach
+pub mod Breaches
+pub mod Completed
+pub mod Constant
 pub mod Erase
 pub mod FirstOperand
+pub mod HasType
 pub mod Markers
+pub mod Rules
+pub mod Scope
+pub mod Shapes
 pub mod Syntax
+pub mod Typing
 pub mod View
+pub mod Words

@@ -2,10 +2,10 @@
 
 ghost use Rattle.std.specs.Prelude.{◌≡◌, map, option_map, IfOk};
 ghost use Rattle.c_tree.specs.Syntax.{LoopFrom};
-ghost use Rattle.c_tree.specs.View.{expression, beginning, held, statement, statements, of_statement, part, parts};
+ghost use Rattle.c_tree.specs.View.{expression, beginning, held, statement, statements, part, parts};
 ghost use Rattle.c_tree.specs.Erase.{erased, erased_all, erased_part, erased_text};
 
-use crate::copy::{ctype, expr, first, optional, params, vars};
+use crate::copy::{expr, first, optional, params, vars};
 use crate::memory::OutOfMemory;
 use crate::place::Place;
 use crate::tree::{Expr, First, Fun, Item, Stmt, StmtKind, Tree};
@@ -134,7 +134,7 @@ fn item(alloc: Global, from: &Item) -> Result<Item, OutOfMemory>
         Item::Fun(f) => {
             let body = optional_body(alloc, &f.body)?;
             Ok(Item::Fun(Fun {
-                base: ctype(alloc, &f.base)?,
+                base: f.base.again(alloc)?,
                 stars: f.stars,
                 name: f.name.again(alloc)?,
                 place: f.place,

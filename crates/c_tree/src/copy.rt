@@ -1,27 +1,13 @@
 //! Equal trees in memory of their own.
 
 ghost use Rattle.std.specs.Prelude.{◌≡◌, false, map, option_map, IfOk};
-ghost use Rattle.c_tree.specs.View.{shape, expression, expressions, initialiser, declarator, beginning, parameter};
+ghost use Rattle.c_tree.specs.View.{expression, initialiser, declarator, beginning, parameter};
 ghost use Rattle.c_tree.specs.FirstOperand.{has_first, with_first};
 
-use crate::ctype::CType;
 use crate::memory::OutOfMemory;
 use crate::spine::Spine;
 use crate::tree::{Callee, Expr, ExprKind, First, Init, Param, Var};
 use std::alloc::Global;
-
-pub(crate) fn ctype(alloc: Global, ty: &CType) -> Result<CType, OutOfMemory>
-    ensures { IfOk result (λ copy. shape copy ≡ shape ty.now) }
-{
-    match ty {
-        CType::Int => Ok(CType::Int),
-        CType::Unsigned => Ok(CType::Unsigned),
-        CType::Char => Ok(CType::Char),
-        CType::Void => Ok(CType::Void),
-        CType::Pointer(to) => Ok(CType::Pointer(Box::new(alloc, ctype(alloc, to)?)?)),
-        CType::Array(of, count) => Ok(CType::Array(Box::new(alloc, ctype(alloc, of)?)?, *count)),
-    }
-}
 
 fn callee(alloc: Global, from: &Callee) -> Result<Callee, OutOfMemory>
     ensures { IfOk result (λ copy. copy ≡ from.now) }
@@ -53,7 +39,7 @@ fn end(alloc: Global, e: &Expr) -> Result<Expr, OutOfMemory>
             Ok(Expr { kind, place })
         }
         ExprKind::Number(ty, value) => {
-            let kind = ExprKind::Number(ctype(alloc, ty)?, *value);
+            let kind = ExprKind::Number(ty.again(alloc)?, *value);
             Ok(Expr { kind, place })
         }
         ExprKind::Character(code) => {
@@ -90,7 +76,7 @@ fn around(alloc: Global, e: &Expr, first: Expr) -> Result<Expr, OutOfMemory>
         }
         ExprKind::Cast(to, _) => {
             let first = Box::new(alloc, first)?;
-            let kind = ExprKind::Cast(ctype(alloc, to)?, first);
+            let kind = ExprKind::Cast(to.again(alloc)?, first);
             Ok(Expr { kind, place })
         }
         ExprKind::Binary(op, _, b) => {
@@ -166,7 +152,7 @@ fn var(alloc: Global, from: &Var) -> Result<Var, OutOfMemory>
 {
     let init = optional_init(alloc, &from.init)?;
     Ok(Var {
-        base: ctype(alloc, &from.base)?,
+        base: from.base.again(alloc)?,
         stars: from.stars,
         name: from.name.again(alloc)?,
         place: from.place,
@@ -212,7 +198,7 @@ fn param(alloc: Global, from: &Param) -> Result<Param, OutOfMemory>
         Some(name) => Some(name.again(alloc)?),
     };
     Ok(Param {
-        base: ctype(alloc, &from.base)?,
+        base: from.base.again(alloc)?,
         stars: from.stars,
         name,
         place: from.place,

@@ -2,6 +2,7 @@
 #![tactic(auto)]
 
 mod bare;
+mod breach;
 mod copy;
 mod ctype;
 mod law;
@@ -13,8 +14,10 @@ mod spine;
 #[cfg(test)]
 mod tests;
 mod tree;
+mod undefined;
 
 pub use bare::erase;
+pub use breach::{Breach, Broken, Least, Ranking};
 pub use ctype::CType;
 pub use law::{erased_text_has_no_marker, erasing_twice_is_erasing_once, unmarked_text_stays};
 pub use memory::OutOfMemory;
@@ -24,3 +27,4 @@ pub use place::Place;
 pub use tree::{
     Callee, Count, Expr, ExprKind, First, Fun, Init, Item, Marker, Param, Stmt, StmtKind, Tree, Var,
 };
+pub use undefined::Undefined;

@@ -1,0 +1,150 @@
+-- Constants: their type, their value, and the breaches where one is needed (C11 6.6).
+use Rattle.std.specs.Prelude.{ℕ, Bool, true, false, not, ◌&&◌, ◌||◌, ◌==◌, List, [], ◌++◌, Option, Some, None, is_some, if◌then◌else◌}
+use Rattle.c_tree.specs.declared.breach.Breach.{Breach}
+use Rattle.c_tree.specs.declared.breach.Broken.TheVariants.{Unknown, NotConstant}
+use Rattle.c_tree.specs.declared.operator.Binary.{Binary}
+use Rattle.c_tree.specs.declared.operator.Binary.TheVariants as binary
+use Rattle.c_tree.specs.declared.operator.Unary.{Unary}
+use Rattle.c_tree.specs.declared.operator.Unary.TheVariants as unary
+use Rattle.c_tree.specs.declared.place.Place.{Place}
+use Rattle.c_tree.specs.Syntax.{Shape, IntShape, Expression, Variable, Numeral, Letter, EndOfFile, Prefix, Stepped, Converted, Infix, Choice, Stored, Element, Called}
+use Rattle.c_tree.specs.Scope.{Scope, look}
+use Rattle.c_tree.specs.Breach.{breach, unless}
+use Rattle.c_tree.specs.Shapes.{is_integer, is_unsigned, promoted, common}
+use Rattle.c_tree.specs.Breaches.{breaches}
+use Rattle.c_tree.specs.Words.{infix_word, prefix_word, converted, truth, given}
+
+-- Forms of a constant are integer and character constants, EOF, casts to integers, `+ - ~ !`, binary operators and `?:`.
+
+abbrev pub is_arithmetic : Unary → Bool
+is_arithmetic unary.At = false
+is_arithmetic unary.Address = false
+is_arithmetic _ = true
+
+abbrev pub prefix_shape : Unary → Shape → Shape
+prefix_shape unary.Not t = IntShape
+prefix_shape _ t = promoted t
+
+abbrev pub is_shift : Binary → Bool
+is_shift binary.Left = true
+is_shift binary.Right = true
+is_shift _ = false
+
+-- comparisons, `&&` and `||`
+abbrev pub gives_truth : Binary → Bool
+gives_truth binary.Or = true
+gives_truth binary.And = true
+gives_truth binary.Equal = true
+gives_truth binary.Unequal = true
+gives_truth binary.Less = true
+gives_truth binary.Greater = true
+gives_truth binary.LessEqual = true
+gives_truth binary.GreaterEqual = true
+gives_truth _ = false
+
+abbrev pub infix_shape : Binary → Shape → Shape → Shape
+infix_shape op t u = if gives_truth op then IntShape else if is_shift op then promoted t else common t u
+
+abbrev pub integer_shape : Shape → Shape
+integer_shape t = if is_integer t then t else IntShape
+
+-- the type of a constant
+abbrev pub constant_shape : Expression → Shape
+constant_shape (Numeral shape n at) = integer_shape shape
+constant_shape (Prefix op a at) = if is_arithmetic op then prefix_shape op (constant_shape a) else IntShape
+constant_shape (Converted to a at) = integer_shape to
+constant_shape (Infix op a b at) = infix_shape op (constant_shape a) (constant_shape b)
+constant_shape (Choice c a b at) = common (constant_shape a) (constant_shape b)
+constant_shape _ = IntShape
+
+-- whether the arithmetic of an operator on two integers is unsigned
+abbrev pub is_unsigned_act : Binary → Shape → Shape → Bool
+is_unsigned_act op t u = is_unsigned t || (not (is_shift op) && is_unsigned u)
+
+abbrev pub on_one : (ℕ → Option ℕ) → Option ℕ → Option ℕ
+on_one f None = None
+on_one f (Some x) = f x
+
+-- whether the first operand of `&&` or `||` decides
+abbrev pub decides : Binary → ℕ → Bool
+decides binary.And x = x == 0
+decides binary.Or x = not (x == 0)
+decides _ x = false
+
+abbrev pub is_logic : Binary → Bool
+is_logic binary.And = true
+is_logic binary.Or = true
+is_logic _ = false
+
+-- whether the second operand is evaluated, by the value of the first
+abbrev pub needs_second : Binary → Option ℕ → Bool
+needs_second op None = not (is_logic op)
+needs_second op (Some x) = not (decides op x)
+
+abbrev pub infix_value : Binary → Bool → Option ℕ → Option ℕ → Option ℕ
+infix_value op unsigned None y = None
+infix_value op unsigned (Some x) y =
+    if decides op x then Some (truth (not (x == 0))) else on_one (λ y. given (infix_word op unsigned x y)) y
+
+-- one of two is evaluated
+abbrev pub chosen : {A : Type 0} → A → Option ℕ → A → A → A
+chosen none None a b = none
+chosen none (Some x) a b = if x == 0 then b else a
+
+-- the value of a constant, where no act that it evaluates is undefined
+abbrev pub value_of : Expression → Option ℕ
+value_of (Numeral shape n at) = if is_integer shape then Some n else None
+value_of (Letter code at) = Some code
+value_of (EndOfFile at) = Some 4294967295
+value_of (Prefix op a at) = if is_arithmetic op then on_one (λ x. given (prefix_word op (is_unsigned (constant_shape a)) x)) (value_of a) else None
+value_of (Converted to a at) = if is_integer to then on_one (λ x. Some (converted to x)) (value_of a) else None
+value_of (Infix op a b at) = infix_value op (is_unsigned_act op (constant_shape a) (constant_shape b)) (value_of a) (value_of b)
+value_of (Choice c a b at) = chosen None (value_of c) (value_of a) (value_of b)
+value_of _ = None
+
+-- both operands have values, or the first alone decides
+abbrev pub is_ready : Binary → Option ℕ → Option ℕ → Bool
+is_ready op x y = is_some x && (not (needs_second op x) || is_some y)
+
+-- an act is a breach where it is evaluated, its operands have values and it has none
+abbrev pub act_breaches : Bool → Bool → Option ℕ → Place → List Breach
+act_breaches live ready value at = unless (not (live && ready) || is_some value) NotConstant at
+
+-- a name in a constant is unknown, or no constant
+abbrev pub name_breach : Bool → Place → List Breach
+name_breach visible at = breach (if visible then NotConstant else Unknown) at
+
+abbrev pub foreign_name : Option Scope → List ℕ → Place → List Breach
+foreign_name None name at = breach NotConstant at
+foreign_name (Some scope) name at = name_breach (is_some (look scope name)) at
+
+-- what another node that is no form of a constant breaks
+abbrev pub foreign : Option Scope → Expression → Place → List Breach
+foreign None e at = breach NotConstant at
+foreign (Some scope) e at = breaches scope true e ++ breach NotConstant at
+
+module _ (scope : Option Scope) where
+  -- the breaches where a constant is needed: the outermost nodes that are no form of one, and the undefined acts that are evaluated;
+  -- `live` says that the expression is evaluated; with a scope the breaches within those outermost nodes count too
+  abbrev pub constant_breaches : Bool → Expression → List Breach
+  constant_breaches live (Numeral shape n at) = if is_integer shape then [] else foreign scope (Numeral shape n at) at
+  constant_breaches live (Letter code at) = []
+  constant_breaches live (EndOfFile at) = []
+  constant_breaches live (Prefix op a at) =
+      if is_arithmetic op
+      then constant_breaches live a ++ act_breaches live (is_some (value_of a)) (value_of (Prefix op a at)) at
+      else foreign scope (Prefix op a at) at
+  constant_breaches live (Converted to a at) = if is_integer to then constant_breaches live a else foreign scope (Converted to a at) at
+  constant_breaches live (Infix op a b at) =
+      constant_breaches live a
+      ++ (constant_breaches (live && needs_second op (value_of a)) b
+      ++ act_breaches live (is_ready op (value_of a) (value_of b)) (value_of (Infix op a b at)) at)
+  constant_breaches live (Choice c a b at) =
+      constant_breaches live c
+      ++ (constant_breaches (live && chosen false (value_of c) true false) a
+      ++ constant_breaches (live && chosen false (value_of c) false true) b)
+  constant_breaches live (Variable name at) = foreign_name scope name at
+  constant_breaches live (Stepped how a at) = foreign scope (Stepped how a at) at
+  constant_breaches live (Stored how a b at) = foreign scope (Stored how a b at) at
+  constant_breaches live (Element a b at) = foreign scope (Element a b at) at
+  constant_breaches live (Called name all at) = foreign scope (Called name all at) at

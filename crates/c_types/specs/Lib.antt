@@ -1,0 +1,6 @@
+pub mod Call
+pub mod Constant
+pub mod Env
+pub mod Fault
+pub mod Seen
+pub mod Spine

@@ -1,0 +1,239 @@
+//! Calls: what they name, and whether their arguments fit.
+
+ghost use Rattle.std.specs.Prelude.{◌≡◌, ◌&&◌, not, is_some, map, None, Some, if◌then◌else◌};
+ghost use Rattle.std.specs.Option.{option_map, option_copied};
+ghost use Rattle.c_tree.specs.Syntax.{IntShape};
+ghost use Rattle.c_tree.specs.View.{shape};
+ghost use Rattle.c_tree.specs.Breach.{least_of, breach, unless};
+ghost use Rattle.c_tree.specs.Rules.{store_rule, where_right};
+ghost use Rattle.c_tree.specs.Typing.{one, called, result_of, parameters_of, is_none_left, others, takes_first};
+ghost use Rattle.c_tree.specs.Breaches.{possible_one, may_take_first, call_breaches};
+ghost use Rattle.c_types.specs.Env.{scope_of, known};
+ghost use Rattle.c_types.specs.Seen.{seen, seen_some};
+ghost use Rattle.c_types.specs.Call.{target, parameters};
+
+use crate::env::{Env, Known};
+use crate::least::note;
+use crate::rules::PartRule;
+use crate::seen::{Base, Seen, is_void};
+use c_tree::{Broken, CType, Callee, Least, Place};
+
+/// What a call names.
+#[derive(Clone, Copy)]
+pub enum Target<'a> {
+    Found(Option<&'a Known>),
+    Getchar,
+    Putchar,
+}
+
+/// The types of a call's parameters.
+#[derive(Clone, Copy)]
+pub enum Parameters<'a> {
+    Listed(&'a [CType]),
+    OneInt,
+}
+
+impl<'a> Target<'a> {
+    /// What a call names.
+    pub fn of(callee: &Callee, env: &'a Env) -> Target<'a>
+        ensures { target result ≡ called (scope_of env.now) callee.now }
+    {
+        match callee {
+            Callee::Name(name) => Target::Found(env.find(name)),
+            Callee::Getchar => Target::Getchar,
+            Callee::Putchar => Target::Putchar,
+        }
+    }
+
+    /// What it takes.
+    pub fn parameters(self) -> Parameters<'a>
+        ensures { parameters result ≡ parameters_of (target self.entry) }
+    {
+        match self {
+            Target::Found(Some(Known::Function(_, types))) => Parameters::Listed(types.as_slice()),
+            Target::Found(_) => Parameters::Listed(&[]),
+            Target::Getchar => Parameters::Listed(&[]),
+            Target::Putchar => Parameters::OneInt,
+        }
+    }
+}
+
+/// What the arguments of a call are to its parameters.
+#[derive(Clone, Copy, Debug)]
+pub struct Passed {
+    /// There is one for each parameter.
+    pub counts: bool,
+    /// None is refused.
+    pub fits: bool,
+    /// Each has a type that its parameter takes.
+    pub typed: bool,
+}
+
+impl<'a> Parameters<'a> {
+    /// Those behind the first.
+    pub fn others(self) -> Parameters<'a>
+        ensures { parameters result ≡ others (parameters self.entry) }
+    {
+        match self {
+            Parameters::OneInt => Parameters::Listed(&[]),
+            Parameters::Listed(types) => Parameters::Listed(others(types)),
+        }
+    }
+
+    fn is_empty(self) -> bool
+        ensures { result ≡ is_none_left (parameters self.entry) }
+    {
+        match self {
+            Parameters::OneInt => false,
+            Parameters::Listed(types) => is_none_left(types),
+        }
+    }
+
+    /// One more argument.
+    pub fn pass(self, passed: Passed, nought: bool, ty: Option<Seen<'a>>) -> Passed
+        ensures counts { result.counts ≡ (passed.counts && not (is_none_left (parameters self.entry))) }
+        ensures fits { result.fits ≡ (passed.fits && may_take_first (parameters self.entry) nought (seen_some ty.entry)) }
+        ensures typed { result.typed ≡ (passed.typed && takes_first (parameters self.entry) nought (seen_some ty.entry)) }
+    {
+        match self {
+            Parameters::OneInt => pass_to(passed, Seen::Is(Base::Int), nought, ty),
+            Parameters::Listed(types) => pass_listed(passed, types, nought, ty),
+        }
+    }
+
+    /// No more arguments.
+    pub fn end(self, passed: Passed) -> Passed
+        ensures counts { result.counts ≡ (passed.counts && is_none_left (parameters self.entry)) }
+        ensures fits { result.fits ≡ passed.fits }
+        ensures typed { result.typed ≡ (passed.typed && is_none_left (parameters self.entry)) }
+    {
+        let empty = self.is_empty();
+        Passed {
+            counts: passed.counts && empty,
+            fits: passed.fits,
+            typed: passed.typed && empty,
+        }
+    }
+}
+
+fn others(types: &[CType]) -> &[CType]
+    ensures { map shape result.now ≡ others (map shape types.now) }
+{
+    match types {
+        [] => types,
+        [_, more @ ..] => more,
+    }
+}
+
+fn is_none_left(types: &[CType]) -> bool
+    ensures { result ≡ is_none_left (map shape types.now) }
+{
+    match types {
+        [] => true,
+        [_, ..] => false,
+    }
+}
+
+fn pass_to<'a>(passed: Passed, to: Seen<'a>, nought: bool, ty: Option<Seen<'a>>) -> Passed
+    ensures counts { result.counts ≡ passed.counts }
+    ensures fits { result.fits ≡ (passed.fits && possible_one (store_rule None nought (seen to.entry)) (seen_some ty.entry)) }
+    ensures typed { result.typed ≡ (passed.typed && is_some (one (store_rule None nought (seen to.entry)) (seen_some ty.entry))) }
+{
+    let rule = PartRule::Argument(to, nought);
+    let possible = rule.possible(ty);
+    let typed = rule.one(ty).is_some();
+    Passed {
+        counts: passed.counts,
+        fits: passed.fits && possible,
+        typed: passed.typed && typed,
+    }
+}
+
+fn pass_listed<'a>(passed: Passed, types: &'a [CType], nought: bool, ty: Option<Seen<'a>>) -> Passed
+    ensures counts { result.counts ≡ (passed.counts && not (is_none_left (map shape types.now))) }
+    ensures fits { result.fits ≡ (passed.fits && may_take_first (map shape types.now) nought (seen_some ty.entry)) }
+    ensures typed { result.typed ≡ (passed.typed && takes_first (map shape types.now) nought (seen_some ty.entry)) }
+{
+    match types {
+        [] => Passed {
+            counts: false,
+            fits: passed.fits,
+            typed: false,
+        },
+        [to, ..] => pass_to(passed, Seen::of(to), nought, ty),
+    }
+}
+
+/// Notes what a call of a function breaks.
+fn note_call(is_void_used: bool, passed: Passed, at: Place, least: &mut Least)
+    ensures { least.new ≡ least_of least.old (if is_void_used then breach Broken.Mismatch at else if passed.counts then unless passed.fits Broken.Mismatch at else breach Broken.Arguments at) }
+{
+    if is_void_used {
+        note(least, false, Broken::Mismatch, at);
+    } else if passed.counts {
+        note(least, passed.fits, Broken::Mismatch, at);
+    } else {
+        note(least, false, Broken::Arguments, at);
+    }
+}
+
+fn call_known<'a>(
+    found: Option<&'a Known>,
+    used: bool,
+    passed: Passed,
+    at: Place,
+    least: &mut Least,
+) -> Option<Seen<'a>>
+    ensures ty { seen_some result ≡ where_right passed.typed (result_of (option_map known (option_copied found.entry))) }
+    ensures least { least.new ≡ least_of least.old (call_breaches used (option_map known (option_copied found.entry)) passed.counts passed.fits at) }
+{
+    match found {
+        None => {
+            note(least, false, Broken::Unknown, at);
+            None
+        }
+        Some(Known::Object(_)) => {
+            note(least, false, Broken::Mismatch, at);
+            None
+        }
+        Some(Known::Function(result_type, _)) => {
+            let void = is_void(result_type);
+            note_call(void && used, passed, at, least);
+            if passed.typed && !void {
+                Some(Seen::of(result_type))
+            } else {
+                None
+            }
+        }
+    }
+}
+
+fn call_built_in<'a>(passed: Passed, at: Place, least: &mut Least) -> Option<Seen<'a>>
+    ensures ty { seen_some result ≡ where_right passed.typed (Some IntShape) }
+    ensures least { least.new ≡ least_of least.old (if passed.counts then unless passed.fits Broken.Mismatch at else breach Broken.Arguments at) }
+{
+    note_call(false, passed, at, least);
+    if passed.typed {
+        Some(Seen::Is(Base::Int))
+    } else {
+        None
+    }
+}
+
+/// The type of a call's value, where it has one.
+pub fn call<'a>(
+    name: Target<'a>,
+    used: bool,
+    passed: Passed,
+    at: Place,
+    least: &mut Least,
+) -> Option<Seen<'a>>
+    ensures ty { seen_some result ≡ where_right passed.typed (result_of (target name.entry)) }
+    ensures least { least.new ≡ least_of least.old (call_breaches used (target name.entry) passed.counts passed.fits at) }
+{
+    match name {
+        Target::Found(found) => call_known(found, used, passed, at, least),
+        Target::Getchar => call_built_in(passed, at, least),
+        Target::Putchar => call_built_in(passed, at, least),
+    }
+}

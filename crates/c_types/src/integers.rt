@@ -1,0 +1,155 @@
+//! The types of constants, and what an operator does to two constants.
+
+ghost use Rattle.std.specs.Prelude.{◌≡◌, Option};
+ghost use Rattle.c_tree.specs.View.{shape};
+ghost use Rattle.c_tree.specs.Shapes.{promoted, common, is_unsigned};
+ghost use Rattle.c_tree.specs.Constant.{is_shift, gives_truth, infix_shape, integer_shape, is_unsigned_act, decides, is_logic, needs_second, infix_value, is_ready};
+ghost use Rattle.c_types.specs.Constant.{integer};
+
+use crate::words::infix_word;
+use c_tree::{Binary, CType};
+
+/// The type of a constant.
+#[derive(Clone, Copy, Debug, PartialEq, Eq)]
+pub enum Integer {
+    Int,
+    Unsigned,
+    Char,
+}
+
+impl Integer {
+    pub(crate) fn of(ty: &CType) -> Integer
+        ensures { integer result ≡ integer_shape (shape ty.now) }
+    {
+        match ty {
+            CType::Unsigned => Integer::Unsigned,
+            CType::Char => Integer::Char,
+            CType::Int => Integer::Int,
+            CType::Void => Integer::Int,
+            CType::Pointer(_) => Integer::Int,
+            CType::Array(_, _) => Integer::Int,
+        }
+    }
+
+    /// The type by itself.
+    pub fn own(self) -> CType
+        ensures { shape result ≡ integer self }
+    {
+        match self {
+            Integer::Int => CType::Int,
+            Integer::Unsigned => CType::Unsigned,
+            Integer::Char => CType::Char,
+        }
+    }
+
+    pub(crate) fn promote(self) -> Integer
+        ensures { integer result ≡ promoted (integer self) }
+    {
+        match self {
+            Integer::Char => Integer::Int,
+            Integer::Int => Integer::Int,
+            Integer::Unsigned => Integer::Unsigned,
+        }
+    }
+
+    pub(crate) fn is_unsigned(self) -> bool
+        ensures { result ≡ is_unsigned (integer self) }
+    {
+        matches!(self, Integer::Unsigned)
+    }
+
+    pub(crate) fn common(self, other: Integer) -> Integer
+        ensures { integer result ≡ common (integer self) (integer other) }
+    {
+        if self.is_unsigned() || other.is_unsigned() {
+            Integer::Unsigned
+        } else {
+            Integer::Int
+        }
+    }
+}
+
+fn is_shift(op: Binary) -> bool
+    ensures { result ≡ is_shift op }
+{
+    matches!(op, Binary::Left | Binary::Right)
+}
+
+fn gives_truth(op: Binary) -> bool
+    ensures { result ≡ gives_truth op }
+{
+    match op {
+        Binary::Or => true,
+        Binary::And => true,
+        Binary::Equal => true,
+        Binary::Unequal => true,
+        Binary::Less => true,
+        Binary::Greater => true,
+        Binary::LessEqual => true,
+        Binary::GreaterEqual => true,
+        _ => false,
+    }
+}
+
+pub(crate) fn infix_type(op: Binary, left: Integer, right: Integer) -> Integer
+    ensures { integer result ≡ infix_shape op (integer left) (integer right) }
+{
+    if gives_truth(op) {
+        Integer::Int
+    } else if is_shift(op) {
+        left.promote()
+    } else {
+        left.common(right)
+    }
+}
+
+pub(crate) fn is_unsigned_act(op: Binary, left: Integer, right: Integer) -> bool
+    ensures { result ≡ is_unsigned_act op (integer left) (integer right) }
+{
+    left.is_unsigned() || !is_shift(op) && right.is_unsigned()
+}
+
+/// Whether the first operand of `&&` or `||` decides.
+fn decides(op: Binary, x: u32) -> bool
+    ensures { result ≡ decides op x }
+{
+    match op {
+        Binary::And => x == 0,
+        Binary::Or => x != 0,
+        _ => false,
+    }
+}
+
+fn is_logic(op: Binary) -> bool
+    ensures { result ≡ is_logic op }
+{
+    matches!(op, Binary::And | Binary::Or)
+}
+
+pub(crate) fn needs_second(op: Binary, x: Option<u32>) -> bool
+    ensures { result ≡ needs_second op x }
+{
+    match x {
+        None => !is_logic(op),
+        Some(x) => !decides(op, x),
+    }
+}
+
+pub(crate) fn infix_value(op: Binary, unsigned: bool, x: Option<u32>, y: Option<u32>) -> Option<u32>
+    ensures { result ≡ infix_value op unsigned x y }
+{
+    let x = x?;
+    if decides(op, x) {
+        return Some(if x != 0 { 1 } else { 0 });
+    }
+    match y {
+        None => None,
+        Some(y) => infix_word(op, unsigned, x, y),
+    }
+}
+
+pub(crate) fn is_ready(op: Binary, x: Option<u32>, y: Option<u32>) -> bool
+    ensures { result ≡ is_ready op x y }
+{
+    x.is_some() && (!needs_second(op, x) || y.is_some())
+}

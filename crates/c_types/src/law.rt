@@ -1,0 +1,24 @@
+//! Laws of typing.
+
+ghost use Rattle.std.specs.Prelude.{◌≡◌, Some, Bool, Option};
+ghost use Rattle.c_tree.specs.declared.operator.Binary.{Binary};
+ghost use Rattle.c_tree.specs.Completed.{IsExact};
+ghost use Rattle.c_tree.specs.HasType.{HasType};
+ghost use Rattle.c_tree.specs.Rules.{infix_rule, choice_rule, element_rule, store_rule};
+ghost use Rattle.c_tree.specs.Scope.{Scope};
+ghost use Rattle.c_tree.specs.Syntax.{Expression, Shape};
+ghost use Rattle.c_tree.specs.Typing.{type_at};
+
+/// The type of an expression is the one that the typing rules derive, each rule by itself.
+pub fn the_type_is_what_the_rules_derive()
+    ensures derived { (scope : Scope) → (e : Expression) → (t : Shape) → HasType scope e t → type_at scope e ≡ Some t }
+    ensures each { (scope : Scope) → (e : Expression) → (t : Shape) → type_at scope e ≡ Some t → HasType scope e t }
+{}
+
+/// A node with a part that has no type breaks its rule exactly where no types for such parts would meet it.
+pub fn a_rule_is_broken_where_no_types_would_meet_it()
+    ensures operators { (op : Binary) → (n m : Bool) → IsExact (infix_rule op n m) }
+    ensures choices { (n m : Bool) → IsExact (choice_rule n m) }
+    ensures elements { IsExact element_rule }
+    ensures assignments { (how : Option Binary) → (n : Bool) → IsExact (store_rule how n) }
+{}

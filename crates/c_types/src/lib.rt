@@ -1,0 +1,30 @@
+//! Types of expressions, and constants.
+#![tactic(auto)]
+
+mod call;
+mod constants;
+mod env;
+mod fault;
+mod integers;
+mod law;
+mod least;
+mod rules;
+mod seen;
+mod spine;
+#[cfg(test)]
+mod tests;
+mod types;
+mod typing;
+mod words;
+
+pub use constants::{Evaluation, evaluate};
+pub use env::{Env, Known};
+pub use fault::TypeFault;
+pub use integers::Integer;
+pub use law::{a_rule_is_broken_where_no_types_would_meet_it, the_type_is_what_the_rules_derive};
+pub use least::{keep, none_found, note};
+pub use rules::{PartRule, Rule};
+pub use seen::{Base, Seen, is_void, same_type};
+pub use types::{constant, promote, type_of};
+pub use typing::{is_nought, is_place, may_test, walk};
+pub use words::{convert, infix_word, prefix_word};

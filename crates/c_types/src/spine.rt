@@ -1,0 +1,132 @@
+//! First operands, followed in loops: a text can have some 64,000 of them, each within the one before.
+
+ghost use Rattle.std.specs.Prelude.{◌≡◌, ◌<◌, ◌≤◌, Some, None, MatchOption};
+ghost use Rattle.std.specs.Option.{option_copied};
+ghost use Rattle.c_tree.specs.declared.tree.Expr.{size-Expr};
+ghost use Rattle.c_tree.specs.Shapes.{is_integer};
+ghost use Rattle.c_tree.specs.Constant.{is_arithmetic};
+ghost use Rattle.c_tree.specs.View.{expression, shape};
+ghost use Rattle.c_types.specs.Spine.{first_operand, constant_operand, operand, down};
+
+use c_tree::{CType, Expr, ExprKind, Unary};
+
+/// How many operands are followed before a walk begins anew.
+pub(crate) const LIMIT: u32 = 64;
+
+/// Which operands are followed: all first ones, or those of the forms of a constant.
+#[derive(Clone, Copy, Debug)]
+pub(crate) enum Along {
+    Operands,
+    Constants,
+}
+
+#[tactic(auto, using(c_tree::proofs::Views::views))]
+fn first_operand(e: &Expr) -> Option<&Expr>
+    ensures value { MatchOption (option_copied result) (first_operand (expression e.now) ≡ None) (λ a. first_operand (expression e.now) ≡ Some (expression a)) }
+    ensures smaller { MatchOption (option_copied result) (Unit {0}) (λ a. size-Expr a < size-Expr e.now) }
+{
+    match &e.kind {
+        ExprKind::Name(_) => None,
+        ExprKind::Number(_, _) => None,
+        ExprKind::Character(_) => None,
+        ExprKind::Eof => None,
+        ExprKind::Unary(_, a) => Some(a),
+        ExprKind::Step(_, a) => Some(a),
+        ExprKind::Cast(_, a) => Some(a),
+        ExprKind::Binary(_, a, _) => Some(a),
+        ExprKind::Conditional(c, _, _) => Some(c),
+        ExprKind::Assign(_, a, _) => Some(a),
+        ExprKind::Index(a, _) => Some(a),
+        ExprKind::Call(_, _) => None,
+    }
+}
+
+pub(crate) fn is_arithmetic(op: Unary) -> bool
+    ensures { result ≡ is_arithmetic op }
+{
+    match op {
+        Unary::At => false,
+        Unary::Address => false,
+        _ => true,
+    }
+}
+
+pub(crate) fn is_integer(ty: &CType) -> bool
+    ensures { result ≡ is_integer (shape ty.now) }
+{
+    matches!(ty, CType::Int | CType::Unsigned | CType::Char)
+}
+
+#[tactic(auto, using(c_tree::proofs::Views::views))]
+fn constant_operand(e: &Expr) -> Option<&Expr>
+    ensures value { MatchOption (option_copied result) (constant_operand (expression e.now) ≡ None) (λ a. constant_operand (expression e.now) ≡ Some (expression a)) }
+    ensures smaller { MatchOption (option_copied result) (Unit {0}) (λ a. size-Expr a < size-Expr e.now) }
+{
+    match &e.kind {
+        ExprKind::Unary(op, a) => { if is_arithmetic(*op) { Some(a) } else { None } }
+        ExprKind::Cast(to, a) => { if is_integer(to) { Some(a) } else { None } }
+        ExprKind::Binary(_, a, _) => Some(a),
+        ExprKind::Conditional(c, _, _) => Some(c),
+        ExprKind::Name(_) => None,
+        ExprKind::Number(_, _) => None,
+        ExprKind::Character(_) => None,
+        ExprKind::Eof => None,
+        ExprKind::Step(_, _) => None,
+        ExprKind::Assign(_, _, _) => None,
+        ExprKind::Index(_, _) => None,
+        ExprKind::Call(_, _) => None,
+    }
+}
+
+/// The first operand, where it is followed.
+pub(crate) fn operand(along: Along, e: &Expr) -> Option<&Expr>
+    ensures value { MatchOption (option_copied result) (operand along (expression e.now) ≡ None) (λ a. operand along (expression e.now) ≡ Some (expression a)) }
+    ensures smaller { MatchOption (option_copied result) (Unit {0}) (λ a. size-Expr a < size-Expr e.now) }
+{
+    match along {
+        Along::Operands => first_operand(e),
+        Along::Constants => constant_operand(e),
+    }
+}
+
+/// The operand so many steps further down, or the last one.
+#[tactic(auto, using(crate::proofs::Descent::steps))]
+pub(crate) fn descend<'a>(along: Along, e: &'a Expr, count: u32) -> &'a Expr
+    ensures reaches { expression result.now ≡ down along count (expression e.now) }
+    ensures small { size-Expr result.now ≤ size-Expr e.now }
+{
+    let mut end = e;
+    for _step in 0..count {
+        if let Some(next) = operand(along, end) {
+            end = next;
+        }
+    }
+    end
+}
+
+/// An operand, and how many steps it is further down.
+#[derive(Clone, Copy)]
+pub(crate) struct Lowest<'a> {
+    pub(crate) end: &'a Expr,
+    pub(crate) count: u32,
+}
+
+/// The last operand, or the one at the limit.
+#[tactic(auto, using(crate::proofs::Descent::steps))]
+pub(crate) fn follow<'a>(along: Along, e: &'a Expr) -> Lowest<'a>
+    ensures reaches { expression result.end.now ≡ down along result.count (expression e.now) }
+    ensures ends { result.count < LIMIT → operand along (expression result.end.now) ≡ None }
+    ensures small { size-Expr result.end.now ≤ size-Expr e.now }
+    ensures smaller { 0 < result.count → size-Expr result.end.now < size-Expr e.now }
+{
+    let mut end = e;
+    let mut count = 0;
+    while count < LIMIT {
+        let Some(next) = operand(along, end) else {
+            return Lowest { end, count };
+        };
+        end = next;
+        count += 1;
+    }
+    Lowest { end, count }
+}
