@@ -19,7 +19,7 @@ abbrev pub AllOf : {X : Type 0} → (Kind → X → Type 0) → List (Kind × X)
 AllOf P [] = Unit {0}
 AllOf P (x ∷ xs) = P x.0 x.1 × AllOf P xs
 
-found : {X : Type 0} (P : Kind → X → Type 0) (xs : List (Kind × X)) (kind : Kind) (v : X) → AllOf P xs → find xs kind ≡ Some v → P kind v
+pub found : {X : Type 0} (P : Kind → X → Type 0) (xs : List (Kind × X)) (kind : Kind) (v : X) → AllOf P xs → find xs kind ≡ Some v → P kind v
 found P [] kind v h e = cc
 found P (x ∷ xs) kind v h e = go (same kind x.0) refl e (found P xs kind v h.1)
   where

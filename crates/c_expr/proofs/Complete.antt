@@ -33,7 +33,7 @@ same_room : (r : ℕ) → r ≡ r - 0
 same_room r = omega arith
 
 -- a base
-base_kind : {l : ℕ} {a : List Leveled} {to : Shape} → IsBase l a to → (m : ℕ) (rest ts : List Token) → Follows m a rest ts → is_base (kind_of ts) ≡ true
+pub base_kind : {l : ℕ} {a : List Leveled} {to : Shape} → IsBase l a to → (m : ℕ) (rest ts : List Token) → Follows m a rest ts → is_base (kind_of ts) ≡ true
 base_kind (g.plain {l = l} {kind = kind} {p = p} e) m rest ts h =
     let w = cut m [] (at l kind p) [] rest ts h in
     ap (λ us. is_base (kind_of us)) w.front ∙ ap (λ o. is_base_by o (is_unsigned kind)) e

@@ -40,7 +40,7 @@ ok_not_err x e h = cc
 list_of : {X : Type 0} (x y : X × List Token) → ◌≡◌ {A = Outcome X} (Ok x) (Ok y) → x.1 ≡ y.1
 list_of x y h = let same : x ≡ y = cc in ap (λ p. p.1) same
 
-below_of : (m : ℕ) (a : List Leveled) → AreLow m a → AreBelow m a
+pub below_of : (m : ℕ) (a : List Leveled) → AreLow m a → AreBelow m a
 below_of m [] h = tt
 below_of m (x ∷ a) h = (h.0.0, below_of m a h.1)
 
@@ -56,7 +56,7 @@ not_last m [] t (x ∷ read) low e h = low.0.1 (sym (ap kind_of e) ∙ h)
 not_last m (y ∷ before) t [] low e h = cc
 not_last m (y ∷ before) t (x ∷ read) low e h = not_last m before t read low.1 (ap tail_of e) h
 
-not_all : (m : ℕ) (ts : List Token) (read : List Leveled) → IsEnded ts → AreLow m read → ts ≡ tokens_of read ++ [] → ⊥
+pub not_all : (m : ℕ) (ts : List Token) (read : List Leveled) → IsEnded ts → AreLow m read → ts ≡ tokens_of read ++ [] → ⊥
 not_all m ts read h low e = not_last m h.before (record { kind = k.End; place = h.place }) read low (sym h.ended ∙ e ∙ append-nil (tokens_of read)) refl
 
 -- what is answered for tokens whose last is the end of the text
@@ -70,13 +70,13 @@ module _ {X : Type 0} (P : List Leveled → X → Type 0) (wider : List Leveled 
   regrouped : (c read : List Leveled) (next : Token) (more : List Token) → tokens_of c ≡ (tokens_of read ++ next ∷ []) ++ more → tokens_of c ++ [] ≡ tokens_of read ++ next ∷ more
   regrouped c read next more e = append-nil (tokens_of c) ∙ e ∙ append_assoc (tokens_of read) (next ∷ []) more
 
-  read_ends : (x : X) (read : List Leveled) (rest : List Token) → ((c : List Leveled) (b : List Token) → Looks rest b → wider c (tokens_of read ++ b) ≡ Ok (x, b)) → GoesNoFurther P read rest
+  pub read_ends : (x : X) (read : List Leveled) (rest : List Token) → ((c : List Leveled) (b : List Token) → Looks rest b → wider c (tokens_of read ++ b) ≡ Ok (x, b)) → GoesNoFurther P read rest
   read_ends x read [] again = tt
   read_ends x read (next ∷ rest) again = λ b.
       let lists : [] ≡ next ∷ b.more = list_of (b.tree, []) (x, next ∷ b.more)
       (sym (complete b.all b.tree b.spelled) ∙ ap (wider b.all) (regrouped b.all read next b.more b.splits) ∙ again b.all (next ∷ b.more) refl) in cc
 
-  refused_ends : (read : List Leveled) (rest : List Token) → ((c : List Leveled) (b : List Token) → Looks rest b → wider c (tokens_of read ++ b) ≡ Err (Unexpected (place_of b))) → GoesNoFurther P read rest
+  pub refused_ends : (read : List Leveled) (rest : List Token) → ((c : List Leveled) (b : List Token) → Looks rest b → wider c (tokens_of read ++ b) ≡ Err (Unexpected (place_of b))) → GoesNoFurther P read rest
   refused_ends read [] again = tt
   refused_ends read (next ∷ rest) again = λ b.
       ok_not_err (b.tree, []) (Unexpected next.place) (sym (complete b.all b.tree b.spelled) ∙ ap (wider b.all) (regrouped b.all read next b.more b.splits) ∙ again b.all (next ∷ b.more) refl)
@@ -166,7 +166,7 @@ rest_is tokens before rest n e is =
 abbrev pub from : List Token → ℕ → List Token
 from tokens at = take (length tokens - at) (drop at tokens)
 
-from_is : (tokens : List Token) (at : ℕ) → from tokens at ≡ drop at tokens
+pub from_is : (tokens : List Token) (at : ℕ) → from tokens at ≡ drop at tokens
 from_is tokens at = take_all (length tokens - at) (drop at tokens) (omega (arith, length-drop at tokens))
 
 -- the same with the place behind what was read

@@ -10,4 +10,8 @@ pub mod Raised
 pub mod Complete
 pub mod Exact
 pub mod Placed
+pub mod Single
 pub mod Once
+pub mod Agreed
+pub mod Turns
+pub mod Fronts

@@ -31,37 +31,37 @@ similar_placed q [] [] = none
 similar_placed q [] (x ∷ b) = more q (similar_placed q [] b)
 similar_placed q (x ∷ a) b = more x.token.place (similar_placed q a b)
 
-record Parts (a b c : List Leveled) : Type 0 where
-  left : List Leveled
-  right : List Leveled
-  is : c ≡ left ++ right
-  similar_left : Similar a left
-  similar_right : Similar b right
+pub record Parts (a b c : List Leveled) : Type 0 where
+  pub left : List Leveled
+  pub right : List Leveled
+  pub is : c ≡ left ++ right
+  pub similar_left : Similar a left
+  pub similar_right : Similar b right
 
-parts : (a b c : List Leveled) → Similar (a ++ b) c → Parts a b c
+pub parts : (a b c : List Leveled) → Similar (a ++ b) c → Parts a b c
 parts [] b c h = record { left = []; right = c; is = refl; similar_left = none; similar_right = h }
 parts (x ∷ a) b c (more {b = c'} q h) =
     let w = parts a b c' h in
     record { left = at x.level x.token.kind q ∷ w.left; right = w.right; is = ap (λ d. at x.level x.token.kind q ∷ d) w.is; similar_left = more q w.similar_left; similar_right = w.similar_right }
 
-record Cut (a : List Leveled) (l : ℕ) (kind : Kind) (b c : List Leveled) : Type 0 where
-  left : List Leveled
-  place : Place
-  right : List Leveled
-  is : left ++ at l kind place ∷ right ≡ c
-  similar_left : Similar a left
-  similar_right : Similar b right
+pub record Cut (a : List Leveled) (l : ℕ) (kind : Kind) (b c : List Leveled) : Type 0 where
+  pub left : List Leveled
+  pub place : Place
+  pub right : List Leveled
+  pub is : left ++ at l kind place ∷ right ≡ c
+  pub similar_left : Similar a left
+  pub similar_right : Similar b right
 
 cut_here : (a : List Leveled) (l : ℕ) (kind : Kind) (p : Place) (b c left right : List Leveled) → c ≡ left ++ right → Similar a left → Similar (at l kind p ∷ b) right → Cut a l kind b c
 cut_here a l kind p b c left _ e h (more {b = d} q i) = record { left = left; place = q; right = d; is = sym e; similar_left = h; similar_right = i }
 
-cut : (a : List Leveled) (l : ℕ) (kind : Kind) (p : Place) (b c : List Leveled) → Similar (a ++ at l kind p ∷ b) c → Cut a l kind b c
+pub cut : (a : List Leveled) (l : ℕ) (kind : Kind) (p : Place) (b c : List Leveled) → Similar (a ++ at l kind p ∷ b) c → Cut a l kind b c
 cut a l kind p b c h = let w = parts a (at l kind p ∷ b) c h in cut_here a l kind p b c w.left w.right w.is w.similar_left w.similar_right
 
-nothing_left : (c : List Leveled) → Similar [] c → [] ≡ c
+pub nothing_left : (c : List Leveled) → Similar [] c → [] ≡ c
 nothing_left _ none = refl
 
-placed_base : {l : ℕ} {a : List Leveled} {to : Shape} → IsBase l a to → (b : List Leveled) → Similar a b → IsBase l b to
+pub placed_base : {l : ℕ} {a : List Leveled} {to : Shape} → IsBase l a to → (b : List Leveled) → Similar a b → IsBase l b to
 placed_base (g.plain e) _ (more q none) = g.plain e
 placed_base g.unsigned _ (more q none) = g.unsigned
 placed_base g.unsigned_int _ (more q (more r none)) = g.unsigned_int
@@ -72,7 +72,7 @@ pub record Tree {X : Type 0} (P : List Leveled → X → Type 0) (b : List Level
   pub tree : X
   pub holds : P b tree
 
-move : {X : Type 0} {c d : List Leveled} {y : X} (P : List Leveled → X → Type 0) → c ≡ d → P c y → Tree P d
+pub move : {X : Type 0} {c d : List Leveled} {y : X} (P : List Leveled → X → Type 0) → c ≡ d → P c y → Tree P d
 move {y = y} P e h = record { tree = y; holds = subst (λ d. P d y) e h }
 
 mutual
@@ -149,7 +149,7 @@ mutual
   placed_arguments g.none _ none = record { tree = []; holds = g.none }
   placed_arguments (g.some h) b s = let w = placed_listed h b s in record { tree = w.tree; holds = g.some w.holds }
 
-  placed_listed : {l : ℕ} {a : List Leveled} {xs : List Expression} → IsListed l a xs → (b : List Leveled) → Similar a b → Tree (IsListed l) b
+  pub placed_listed : {l : ℕ} {a : List Leveled} {xs : List Expression} → IsListed l a xs → (b : List Leveled) → Similar a b → Tree (IsListed l) b
   placed_listed (g.one h) b s = let w = placed_assign h b s in record { tree = _; holds = g.one w.holds }
   placed_listed (g.more {l = l} {a = a} {b = b} p h i) c s =
       let w = cut a l (sign (codes ",")) p b c s in

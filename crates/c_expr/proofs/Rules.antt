@@ -19,7 +19,8 @@ use Rattle.c_expr.specs.Reading.{chain_from, assign_inside, after_condition, con
 use Rattle.c_expr.specs.Rules.{IsRule}
 use Rattle.c_expr.proofs.Law.{Lawful, Some_of, Looks, weaken, plain}
 use Rattle.c_expr.proofs.Opens as o
-use Rattle.c_expr.proofs.Sound.{begin_unary, unary_assign, unary_cond, inside_law, narrow_both}
+use Rattle.c_expr.proofs.Sound.{inside_law}
+use Rattle.c_expr.proofs.Fronts.{begin_unary, unary_assign, unary_cond, narrow_both}
 
 -- A token that begins no rule is refused.
 binary_refuses : (again : Rule → ℕ → List Token → Outcome Expression) (r : ℕ) (ts : List Token) → again UnaryRule r ts ≡ refuse ts → (rk : ℕ) → binary again rk r ts ≡ refuse ts

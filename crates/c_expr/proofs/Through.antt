@@ -87,7 +87,7 @@ take_goes zero m x b us f o e h = ap (λ r. allowed r x.token.place (through m b
 take_goes (suc r) m x b us f o e h = h (omega arith) ∙ ap (λ r. allowed r x.token.place (through m b o)) e
 
 -- behind the last token of what was read, if there was room for it
-allowed_under : {X : Type 0} (r : ℕ) (p : Place) (o o' : Outcome X) → (0 < r → o ≡ o') → allowed r p o ≡ allowed r p o'
+pub allowed_under : {X : Type 0} (r : ℕ) (p : Place) (o o' : Outcome X) → (0 < r → o ≡ o') → allowed r p o ≡ allowed r p o'
 allowed_under zero p o o' h = refl
 allowed_under (suc r) p o o' h = h (omega arith)
 

@@ -65,7 +65,7 @@ Parsed P ts (Err (TooDeep place)) = IsTooDeep P ts place
 Parsed P ts (Err OutOfMemory) = Unit {0}
 
 -- the same answer, where memory did not run out
-abbrev pub Agrees : {X : Type 0} → Result (X × List Token) ParseFault → Result (X × List Token) ParseFault → Type 0
+abbrev pub Agrees : {X : Type 0} → Result X ParseFault → Result X ParseFault → Type 0
 Agrees (Err OutOfMemory) other = Unit {0}
 Agrees (Ok x) (Err OutOfMemory) = Unit {0}
 Agrees (Err (Unexpected place)) (Err OutOfMemory) = Unit {0}

@@ -1,0 +1,18 @@
+use Rattle.std.proofs.lemmas.Result.{err_from_is_err_and}
+use Rattle.c_decl.proofs.Ends.{ended_ends}
+use Rattle.c_decl.proofs.Exact.{text_refused, text_whole, text_left}
+use Rattle.c_decl.proofs.unit.parse.Goals as goal
+
+pub invariant_of-unit : goal.invariant_of-unit
+invariant_of-unit c = record { ends = ended_ends c.args.tokens.now c.requires }
+
+pub returns-in_err-items : goal.returns-in_err-items
+returns-in_err-items c =
+    let p = err_from_is_err_and c.from_residual.result c.from_residual.ensures.1 in
+    rw (p.1, p.2) (text_refused c.args.tokens.now c.in_err-items.field-0.0 c.requires c.in_err-items.ensures)
+
+pub returns-in-empty : goal.returns-in-empty
+returns-in-empty c = text_whole c.args.tokens.now c.in_ok-items.rest.tokens.now _ c.requires c.in_ok-items.ensures c.in-empty.len_below
+
+pub returns-in-len1-up : goal.returns-in-len1-up
+returns-in-len1-up c = text_left c.args.tokens.now c.in_ok-items.rest.tokens.now _ c.next-item.result c.requires c.in_ok-items.ensures c.in-len1-up.len_at_least c.next-item.is

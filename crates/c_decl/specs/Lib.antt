@@ -1,0 +1,9 @@
+pub mod Words
+pub mod Declarations
+pub mod Statements
+pub mod Units
+pub mod Whole
+pub mod Reading
+pub mod StatementReading
+pub mod UnitReading
+pub mod Ends
