@@ -1,3 +1,4 @@
 pub mod Requests
 pub mod Running
 pub mod Finish
+pub mod Reports

@@ -1,5 +1,6 @@
 -- What the top call promises: a row for each status.
-use Rattle.std.specs.Prelude.{◌≡◌, ℕ, ℤ, List, [], Option, Some}
+use Rattle.std.specs.Prelude.{◌≡◌, ℕ, ℤ, Bool, IsTrue, List, [], Option, Some}
+use Rattle.std.specs.Io.KnownBytes.{Appends}
 use Rattle.byte_lists.specs.Prefix.{IsPrefix}
 use Rattle.bop_ends.specs.Ends.{Rose, IsFront}
 use Rattle.rv_code.specs.declared.program.Program.{Program}
@@ -9,8 +10,10 @@ use Rattle.rv_code.specs.Run.{seq}
 use Rattle.low_link.specs.Form.{IsForm}
 use Rattle.low_link.specs.Code.{IsProgramOf}
 use Rattle.bop_top.specs.declared.status.Status.{Status}
-use Rattle.bop_top.specs.declared.status.Status.TheVariants.{Done, BadWords, LoadFault, WriteFault, OutOfMemory, NotYetBuilt}
+use Rattle.bop_top.specs.declared.status.Status.TheVariants.{Done, BadWords, LoadFault, WriteFault, ReportFault, OutOfMemory, NotYetBuilt}
 use Rattle.bop_top.specs.declared.top.TheConstants.{BUDGET, MOST_BYTES}
+use Rattle.bop_top.specs.Report.{Reported}
+use Rattle.bop_top.specs.Words.{Request, Seq, IsRequest, name_of}
 
 -- P holds of the text that is loaded: the first bytes of the file
 abbrev pub OfText : Option (List ℕ) → (List ℕ → Type 0) → Type 0
@@ -29,22 +32,26 @@ pub record Exited (m : Machine) (exit : ℤ) (written : List ℕ) : Type 0 where
 abbrev pub IsNotBuilt : List ℕ → Type 0
 IsNotBuilt text = (characters : List ℕ) (exit : ℤ) → IsForm text characters exit → ⊥
 
--- what a status says of the program's file and of the bytes written
-abbrev pub Says : Status → Option (List ℕ) → List ℕ → Type 0
-Says (Done exit) file written = OfText file (λ text. Ran text (λ m. Exited m exit written) × IsForm text written exit)
-Says WriteFault file written = OfText file (λ text. Ran text (λ m. IsPrefix written (output_of m)))
-Says NotYetBuilt file written = OfText file IsNotBuilt × (written ≡ [])
-Says LoadFault file written = written ≡ []
-Says OutOfMemory file written = written ≡ []
-Says BadWords file written = ⊥
+-- what the status of a sequential run says of the program's file and of the bytes written
+abbrev pub SeqSays : Status → Option (List ℕ) → List ℕ → Type 0
+SeqSays (Done exit) file written = OfText file (λ text. Ran text (λ m. Exited m exit written) × IsForm text written exit)
+SeqSays WriteFault file written = OfText file (λ text. Ran text (λ m. IsPrefix written (output_of m)))
+SeqSays NotYetBuilt file written = OfText file IsNotBuilt × (written ≡ [])
+SeqSays LoadFault file written = written ≡ []
+SeqSays OutOfMemory file written = written ≡ []
+SeqSays BadWords file written = ⊥
+SeqSays ReportFault file written = ⊥
 
--- how often each end has failed
+-- what the status with which a command has ended says of them
+abbrev pub Says : Request → Status → Option (List ℕ) → List ℕ → Type 0
+Says (Seq name) status file written = SeqSays status file written
+
+-- how often the ends of a command have failed
 pub record Faults : Type 0 where
   pub shelf : ℕ
   pub output : ℕ
-  pub report : ℕ
 
--- what a status says of the faults before the call and after it: the one that it names rose, and the others stand
+-- what the status says of the faults before the call and after it: the one that it names rose, and the others stand
 abbrev pub Counts : Status → Faults → Faults → Type 0
 Counts LoadFault old new = Rose old.shelf new.shelf × (new ≡ record old { shelf = new.shelf })
 Counts WriteFault old new = Rose old.output new.output × (new ≡ record old { output = new.output })
@@ -52,3 +59,21 @@ Counts (Done exit) old new = new ≡ old
 Counts NotYetBuilt old new = new ≡ old
 Counts OutOfMemory old new = new ≡ old
 Counts BadWords old new = new ≡ old
+Counts ReportFault old new = ⊥
+
+-- the ends at one moment: what the shelf, the output and the report tell, and how often each has failed
+pub record Ends : Type 0 where
+  pub tells : Bool
+  pub file : List ℕ → Option (List ℕ)
+  pub output : Option (List ℕ)
+  pub report : Option (List ℕ)
+  pub faults : Faults
+  pub report_faults : ℕ
+
+-- the course of a call: a command ends with the inner status, which is then reported
+pub record Course (words : List (List ℕ)) (old new : Ends) (final : Status) : Type 0 where
+  pub inner : Status
+  pub says : IsTrue old.tells → (request : Request) → IsRequest words request
+      → (written : List ℕ) × Appends old.output new.output written × Says request inner (old.file (name_of request)) written
+  pub counts : Counts inner old.faults new.faults
+  pub reported : Reported inner final old.report new.report old.report_faults new.report_faults

@@ -1,6 +1,6 @@
 -- The machine that runs in place, as the machine of the definition.
 use Rattle.std.specs.Prelude.{ℕ, ◌+◌, ◌-◌, ◌^◌, List, Option, Some, None}
-use Rattle.rv_code.specs.declared.map.TheConstants.{A0}
+use Rattle.rv_code.specs.declared.call.TheConstants.{A0}
 use Rattle.rv_code.specs.declared.stop.Stop.{Stop}
 use Rattle.rv_code.specs.State as machine
 use Rattle.rv_code.specs.State.{State, Running, Stopped, with_register}

@@ -5,6 +5,10 @@ use Rattle.std.specs.Prelude.{◌≡◌, ◌≢◌, ℕ, List, [], ◌∷◌, co
 pub data Request : Type 0 where
   Seq : (name : List ℕ) → Request
 
+-- the name of the program
+abbrev pub name_of : Request → List ℕ
+name_of (Seq name) = name
+
 -- a name isn't empty, and doesn't begin with `-`
 abbrev pub IsName : List ℕ → Type 0
 IsName name = (name ≢ []) × (slice_index name 0 ≢ 45)

@@ -3,6 +3,7 @@
 
 mod machine;
 mod piece;
+mod report;
 mod run;
 mod status;
 mod top;

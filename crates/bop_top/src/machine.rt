@@ -1,12 +1,13 @@
 // The machine that runs a program in place. None of its instructions reaches its memory yet.
 ghost use Rattle.std.specs.Prelude.{◌≡◌, ◌<◌, ◌≤◌, ◌^◌, ◌+◌, ◌*◌, ◌++◌, [], List, ℕ, None, Some, length, slice_get, IsSome};
 ghost use Rattle.std.specs.Option.{option_to_list};
-ghost use Rattle.rv_code.specs.declared.map.TheConstants.{CODE_WORDS};
+ghost use Rattle.bop_bits.specs.declared.map.TheConstants.{CODE_WORDS};
 ghost use Rattle.rv_code.specs.State.{Running, start as start_of, register, with_register};
 ghost use Rattle.rv_code.specs.Step.{step as step_of, calls, fetch as word_at};
 ghost use Rattle.bop_top.specs.Machine.{state_of, machine_of, got};
 
-use rv_code::{A0, A7, CODE_FROM, Instr, Program, Stop, Trap, decode};
+use bop_bits::CODE_FROM;
+use rv_code::{A0, A7, Instr, Program, Stop, Trap, decode};
 
 /// Registers, pc, input cursor and count of steps, and how the machine has stopped.
 #[derive(Drop)]

@@ -3,7 +3,7 @@ ghost use Rattle.std.specs.Prelude.{◌≡◌, ◌<◌, ◌≤◌, ◌^◌, ◌+
 ghost use Rattle.std.specs.Io.KnownBytes.{Appends};
 ghost use Rattle.byte_lists.specs.Content.{AppendsPrefix};
 ghost use Rattle.bop_ends.specs.Ends.{HasCause};
-ghost use Rattle.rv_code.specs.declared.map.TheConstants.{CODE_WORDS};
+ghost use Rattle.bop_bits.specs.declared.map.TheConstants.{CODE_WORDS};
 ghost use Rattle.rv_code.specs.State.{start, output_of};
 ghost use Rattle.rv_code.specs.Run.{seq};
 ghost use Rattle.bop_top.specs.Machine.{machine_of};

@@ -13,6 +13,8 @@ pub enum Status {
     LoadFault,
     /// The output could not be written.
     WriteFault,
+    /// The command was answered, but its end could not be reported.
+    ReportFault,
     /// There was no memory.
     OutOfMemory,
     /// `bop` doesn't know this kind of text yet.
@@ -29,6 +31,7 @@ impl Status {
             Status::BadWords => 2,
             Status::LoadFault => 3,
             Status::WriteFault => 14,
+            Status::ReportFault => 15,
             Status::OutOfMemory => 18,
             Status::NotYetBuilt => 19,
         }

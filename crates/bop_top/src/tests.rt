@@ -1,10 +1,19 @@
 use super::*;
+use crate::report::report_status;
 use bop_ends::{MemShelf, MemSink};
 use std::alloc::Global;
 use std::collections::BTreeMap;
 use std::test::Fail;
 
 const GREETING: &str = "int main(void){putchar('A');return 0;}";
+
+// How a call has ended, and what it has left in its sinks.
+#[derive(Drop)]
+struct Ended {
+    status: Status,
+    output: MemSink,
+    report: MemSink,
+}
 
 // A shelf with this text under the name `p.c`.
 fn shelf_with(alloc: Global, text: &str) -> Result<MemShelf, Fail> {
@@ -16,61 +25,93 @@ fn shelf_with(alloc: Global, text: &str) -> Result<MemShelf, Fail> {
     Ok(MemShelf::new(alloc, files, Vec::new(alloc)))
 }
 
-// What the words ask for, over a shelf with this text and an output that fails as planned.
+// A sink that fails as planned.
+fn sink_with(alloc: Global, fails: &[(u64, usize)]) -> Result<MemSink, Fail> {
+    let sink = MemSink::new(alloc, 2000, fails.to_vec(alloc)?);
+    Ok(sink.ok().ok_or("no memory for a sink")?)
+}
+
+// What the words ask for, over a shelf with this text, and an output and a report that fail as
+// planned.
 fn call(
     alloc: Global,
     words: &[&str],
     text: &str,
-    fails: &[(u64, usize)],
-) -> Result<(Status, MemSink), Fail> {
+    output_fails: &[(u64, usize)],
+    report_fails: &[(u64, usize)],
+) -> Result<Ended, Fail> {
     let mut owned = Vec::new(alloc);
     for word in words {
         owned.push(String::from_str(alloc, word)?)?;
     }
     let mut shelf = shelf_with(alloc, text)?;
-    let output = MemSink::new(alloc, 2000, fails.to_vec(alloc)?);
-    let output = output.ok().ok_or("no memory for the output")?;
-    let report = MemSink::new(alloc, 0, Vec::new(alloc));
-    let mut report = report.ok().ok_or("no memory for the report")?;
-    Ok(bop_main(alloc, &owned, &mut shelf, output, &mut report))
+    let output = sink_with(alloc, output_fails)?;
+    let mut report = sink_with(alloc, report_fails)?;
+    let (status, output) = bop_main(alloc, &owned, &mut shelf, output, &mut report);
+    Ok(Ended {
+        status,
+        output,
+        report,
+    })
 }
 
 #[test]
 fn texts_run_or_are_not_built_yet(rt: HostRuntime) -> Result<(), Fail> {
     let alloc = rt.alloc();
-    let rows: [(&str, Status, &str); 11] = [
-        (GREETING, Status::Done(0), "A"),
+    let rows: [(&str, Status, &str, &str); 11] = [
+        (GREETING, Status::Done(0), "A", "done 0"),
         (
             "int main(void){putchar('a');putchar(' ');putchar('~');return 7;}\n",
             Status::Done(7),
             "a ~",
+            "done 7",
         ),
-        ("int main(void){return 0;}", Status::Done(0), ""),
+        ("int main(void){return 0;}", Status::Done(0), "", "done 0"),
         (
             "int main(void){return 2147483647;}",
             Status::Done(2147483647),
             "",
+            "done 2147483647",
         ),
-        ("int main(void){return 4095;}", Status::Done(4095), ""),
+        (
+            "int main(void){return 4095;}",
+            Status::Done(4095),
+            "",
+            "done 4095",
+        ),
         (
             "int main(void){return 2147483648;}",
             Status::NotYetBuilt,
             "",
+            "not-yet-built",
         ),
-        ("int main(void){return 00;}", Status::NotYetBuilt, ""),
-        ("int main(void){return 0;}\n\n", Status::NotYetBuilt, ""),
+        (
+            "int main(void){return 00;}",
+            Status::NotYetBuilt,
+            "",
+            "not-yet-built",
+        ),
+        (
+            "int main(void){return 0;}\n\n",
+            Status::NotYetBuilt,
+            "",
+            "not-yet-built",
+        ),
         (
             "int main(void){putchar('A');putchar('\\');return 0;}",
             Status::NotYetBuilt,
             "",
+            "not-yet-built",
         ),
-        ("int main(void){}", Status::NotYetBuilt, ""),
-        ("", Status::NotYetBuilt, ""),
+        ("int main(void){}", Status::NotYetBuilt, "", "not-yet-built"),
+        ("", Status::NotYetBuilt, "", "not-yet-built"),
     ];
-    for (text, wanted, bytes) in rows {
-        let (status, output) = call(alloc, &["seq", "p.c"], text, &[])?;
-        assert_eq!(rt; status, wanted, "{text}");
-        assert_eq!(rt; output.content(), bytes.as_bytes(), "{text}");
+    for (text, wanted, bytes, said) in rows {
+        let ended = call(alloc, &["seq", "p.c"], text, &[], &[])?;
+        let line = format!(in alloc; "status {said}\n")?;
+        assert_eq!(rt; ended.status, wanted, "{text}");
+        assert_eq!(rt; ended.output.content(), bytes.as_bytes(), "{text}");
+        assert_eq!(rt; ended.report.content(), line.as_bytes(), "{text}");
     }
     Ok(())
 }
@@ -83,61 +124,135 @@ fn a_thousand_characters_are_the_most(rt: HostRuntime) -> Result<(), Fail> {
         puts.push_str("putchar('x');")?;
     }
     let text = format!(in alloc; "int main(void){{{puts}return 0;}}")?;
-    let (status, output) = call(alloc, &["seq", "p.c"], &text, &[])?;
-    assert_eq!(rt; status, Status::Done(0));
-    assert_eq!(rt; output.content().len(), 1000);
-    assert!(rt; output.content().iter().all(|byte| *byte == b'x'));
+    let ended = call(alloc, &["seq", "p.c"], &text, &[], &[])?;
+    assert_eq!(rt; ended.status, Status::Done(0));
+    assert_eq!(rt; ended.output.content().len(), 1000);
+    assert!(rt; ended.output.content().iter().all(|byte| *byte == b'x'));
 
     let text = format!(in alloc; "int main(void){{{puts}putchar('x');return 0;}}")?;
-    let (status, output) = call(alloc, &["seq", "p.c"], &text, &[])?;
-    assert_eq!(rt; status, Status::NotYetBuilt);
-    assert_eq!(rt; output.content().len(), 0);
+    let ended = call(alloc, &["seq", "p.c"], &text, &[], &[])?;
+    assert_eq!(rt; ended.status, Status::NotYetBuilt);
+    assert_eq!(rt; ended.output.content().len(), 0);
     Ok(())
 }
 
 #[test]
-fn faults_of_the_ends_are_told(rt: HostRuntime) -> Result<(), Fail> {
+fn faults_and_faulty_words_are_told(rt: HostRuntime) -> Result<(), Fail> {
     let alloc = rt.alloc();
-    let (status, output) = call(alloc, &["seq", "other.c"], GREETING, &[])?;
-    assert_eq!(rt; status, Status::LoadFault);
-    assert_eq!(rt; output.content().len(), 0);
-
-    let (status, output) = call(alloc, &["seq", "p.c"], GREETING, &[(0, 0)])?;
-    assert_eq!(rt; status, Status::WriteFault);
-    assert_eq!(rt; output.content().len(), 0);
-    Ok(())
-}
-
-#[test]
-fn other_words_ask_for_nothing(rt: HostRuntime) -> Result<(), Fail> {
-    let alloc = rt.alloc();
-    let rows: [&[&str]; 6] = [
-        &[],
-        &["seq"],
-        &["seq", ""],
-        &["seq", "-p.c"],
-        &["seq", "p.c", "p.c"],
-        &["Seq", "p.c"],
+    let full: &[(u64, usize)] = &[(0, 0)];
+    let rows: [(&[&str], &[(u64, usize)], Status, &[u8]); 8] = [
+        (
+            &["seq", "other.c"],
+            &[],
+            Status::LoadFault,
+            b"status load-fault\n",
+        ),
+        (
+            &["seq", "p.c"],
+            full,
+            Status::WriteFault,
+            b"status write-fault\n",
+        ),
+        (&[], &[], Status::BadWords, b"status bad-words\n"),
+        (&["seq"], &[], Status::BadWords, b"status bad-words\n"),
+        (&["seq", ""], &[], Status::BadWords, b"status bad-words\n"),
+        (
+            &["seq", "-p.c"],
+            &[],
+            Status::BadWords,
+            b"status bad-words\n",
+        ),
+        (
+            &["seq", "p.c", "p.c"],
+            &[],
+            Status::BadWords,
+            b"status bad-words\n",
+        ),
+        (
+            &["Seq", "p.c"],
+            &[],
+            Status::BadWords,
+            b"status bad-words\n",
+        ),
     ];
-    for words in rows {
-        let (status, output) = call(alloc, words, GREETING, &[])?;
-        assert_eq!(rt; status, Status::BadWords);
-        assert_eq!(rt; output.content().len(), 0);
+    for (row, (words, fails, wanted, line)) in rows.iter().enumerate() {
+        let ended = call(alloc, words, GREETING, fails, &[])?;
+        assert_eq!(rt; ended.status, *wanted, "row {row}");
+        assert_eq!(rt; ended.output.content().len(), 0, "row {row}");
+        assert_eq!(rt; ended.report.content(), *line, "row {row}");
     }
     Ok(())
 }
 
 #[test]
-fn each_status_has_its_code(rt: HostRuntime) {
-    let rows = [
-        (Status::Done(3), 0),
-        (Status::BadWords, 2),
-        (Status::LoadFault, 3),
-        (Status::WriteFault, 14),
-        (Status::OutOfMemory, 18),
-        (Status::NotYetBuilt, 19),
+fn a_failed_report_is_a_fault_of_an_answer_alone(rt: HostRuntime) -> Result<(), Fail> {
+    let alloc = rt.alloc();
+    let rows: [(&[&str], usize, Status, &[u8], &[u8]); 4] = [
+        (&["seq", "p.c"], 0, Status::ReportFault, b"A", b""),
+        (
+            &["seq", "p.c"],
+            11,
+            Status::ReportFault,
+            b"A",
+            b"status done",
+        ),
+        (&["seq", "other.c"], 0, Status::LoadFault, b"", b""),
+        (&["seq"], 9, Status::BadWords, b"", b"status ba"),
     ];
-    for (status, code) in rows {
-        assert_eq!(rt; status.code(), code);
+    for (words, kept, wanted, bytes, front) in rows {
+        let ended = call(alloc, words, GREETING, &[], &[(0, kept)])?;
+        assert_eq!(rt; ended.status, wanted, "{front:?}");
+        assert_eq!(rt; ended.output.content(), bytes, "{front:?}");
+        assert_eq!(rt; ended.report.content(), front, "{front:?}");
     }
+    Ok(())
+}
+
+#[test]
+fn each_status_has_its_code_and_its_line(rt: HostRuntime) -> Result<(), Fail> {
+    let alloc = rt.alloc();
+    let rows: [(Status, u8, &str, Status); 9] = [
+        (Status::Done(0), 0, "done 0", Status::ReportFault),
+        (Status::Done(-1), 0, "done -1", Status::ReportFault),
+        (
+            Status::Done(2147483647),
+            0,
+            "done 2147483647",
+            Status::ReportFault,
+        ),
+        (
+            Status::Done(-2147483648),
+            0,
+            "done -2147483648",
+            Status::ReportFault,
+        ),
+        (Status::BadWords, 2, "bad-words", Status::BadWords),
+        (Status::LoadFault, 3, "load-fault", Status::LoadFault),
+        (Status::WriteFault, 14, "write-fault", Status::WriteFault),
+        (
+            Status::OutOfMemory,
+            18,
+            "out-of-memory",
+            Status::OutOfMemory,
+        ),
+        (
+            Status::NotYetBuilt,
+            19,
+            "not-yet-built",
+            Status::NotYetBuilt,
+        ),
+    ];
+    for (status, code, said, unreported) in rows {
+        let line = format!(in alloc; "status {said}\n")?;
+        let mut report = sink_with(alloc, &[])?;
+        assert_eq!(rt; status.code(), code, "{said}");
+        assert_eq!(rt; report_status(status, &mut report), status, "{said}");
+        assert_eq!(rt; report.content(), line.as_bytes(), "{said}");
+
+        let mut report = sink_with(alloc, &[(0, 3)])?;
+        assert_eq!(rt; report_status(status, &mut report), unreported, "{said}");
+        assert_eq!(rt; report.content(), b"sta".as_slice(), "{said}");
+    }
+    assert_eq!(rt; Status::ReportFault.code(), 15);
+    Ok(())
 }

@@ -2,7 +2,8 @@
 use Rattle.std.specs.Prelude.{◌≡◌, ℕ, ℤ, pos, ◌+◌, ◌/◌, ◌%◌, List, [], ◌∷◌, ◌++◌}
 use Rattle.std.specs.Int.{w32, cast_unsigned}
 use Rattle.rv_code.specs.declared.instr.Instr.TheVariants.{Lui, Addi, Ecall}
-use Rattle.rv_code.specs.declared.map.TheConstants.{A0, A7, CODE_FROM}
+use Rattle.bop_bits.specs.declared.map.TheConstants.{CODE_FROM}
+use Rattle.rv_code.specs.declared.call.TheConstants.{A0, A7}
 use Rattle.rv_code.specs.declared.program.Program.{Program}
 use Rattle.rv_code.specs.Table.{word_of, signed_12}
 use Rattle.low_link.specs.Form.{IsForm}

@@ -1,13 +1,14 @@
 // The code of a text of the form.
 ghost use Rattle.std.specs.Prelude.{◌≡◌, ◌++◌, ◌∷◌, [], ◌<◌, ◌≤ℤ◌, ◌^◌, List, ℕ, ℤ, pos, IfOk, OnOk, IsErrOf, length, ◌≤◌};
-ghost use Rattle.rv_code.specs.declared.map.TheConstants.{CODE_WORDS};
+ghost use Rattle.bop_bits.specs.declared.map.TheConstants.{CODE_WORDS};
 ghost use Rattle.rv_code.specs.Table.{IsInstr, word_of};
 ghost use Rattle.low_link.specs.Form.{IsForm};
 ghost use Rattle.low_link.specs.Code.{put_code, puts_code, return_code, code_of, upper_of, lower_of, IsProgramOf};
 
 use crate::Refused;
 use crate::form::read_form;
-use rv_code::{A0, A7, Bytes, CODE_FROM, Instr, Program, Words, encode};
+use bop_bits::CODE_FROM;
+use rv_code::{A0, A7, Bytes, Instr, Program, Words, encode};
 use std::alloc::{AllocError, Global};
 
 /// The program of a text.

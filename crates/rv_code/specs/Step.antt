@@ -1,9 +1,10 @@
 -- The machine's step: one instruction, or one call of the machine.
 use Rattle.std.specs.Prelude.{ℕ, ◌+◌, ◌-◌, ◌*◌, ◌/◌, ◌%◌, ◌^◌, ◌==◌, ◌&&◌, nat_le, if◌then◌else◌, List, [], ◌∷◌, ◌++◌, Option, Some, None, slice_get}
 use Rattle.std.specs.Int.{w32, cast_unsigned, cast_signed}
+use Rattle.bop_bits.specs.declared.map.TheConstants.{CODE_FROM}
+use Rattle.rv_code.specs.declared.call.TheConstants.{A0, A7}
 use Rattle.rv_code.specs.declared.instr.Instr.{Instr}
 use Rattle.rv_code.specs.declared.instr.Instr.TheVariants.{Lui, Addi, Ecall}
-use Rattle.rv_code.specs.declared.map.TheConstants.{CODE_FROM, A0, A7}
 use Rattle.rv_code.specs.declared.stop.Trap.TheVariants as trap
 use Rattle.rv_code.specs.declared.stop.Stop.{Stop}
 use Rattle.rv_code.specs.declared.stop.Stop.TheVariants as stop
