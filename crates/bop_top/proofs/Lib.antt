@@ -1,4 +1,5 @@
+pub mod Finish
+pub mod Loads
+pub mod Reports
 pub mod Requests
 pub mod Running
-pub mod Finish
-pub mod Reports

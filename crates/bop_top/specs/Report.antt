@@ -1,17 +1,77 @@
 -- The report: one line about how a command has ended, and what becomes of it.
 use Rattle.std.specs.Prelude.{◌≡◌, ℕ, List, ◌++◌, codes, Bool, true, false, if◌then◌else◌, Option, ◌⊎◌}
-use Rattle.std.specs.Fmt.{signed_decimal}
+use Rattle.std.specs.Fmt.{decimal, signed_decimal}
 use Rattle.std.specs.Io.KnownBytes.{Appends}
 use Rattle.byte_lists.specs.Content.{AppendsPrefix}
 use Rattle.bop_ends.specs.Ends.{Rose}
+use Rattle.c_check.specs.declared.fault.CheckFault.{CheckFault}
+use Rattle.c_check.specs.declared.fault.CheckFault.TheVariants as check
+use Rattle.c_check.specs.declared.fault.CheckKind.{CheckKind}
+use Rattle.c_check.specs.declared.fault.CheckKind.TheVariants as kind
+use Rattle.c_expr.specs.declared.fault.ParseFault.{ParseFault}
+use Rattle.c_expr.specs.declared.fault.ParseFault.TheVariants as parse
+use Rattle.c_layout.specs.declared.fault.LayoutFault.{LayoutFault}
+use Rattle.c_layout.specs.declared.fault.LayoutFault.TheVariants as layout
+use Rattle.c_token.specs.declared.fault.TokenFault.{TokenFault}
+use Rattle.c_token.specs.declared.fault.TokenFault.TheVariants as token
+use Rattle.c_tree.specs.declared.place.Place.{Place}
+use Rattle.low_link.specs.declared.refused.Refused.{Refused}
+use Rattle.low_link.specs.declared.refused.Refused.TheVariants as refused
 use Rattle.bop_top.specs.declared.status.Status.{Status}
-use Rattle.bop_top.specs.declared.status.Status.TheVariants.{Done, BadWords, LoadFault, WriteFault, ReportFault, OutOfMemory, NotYetBuilt}
+use Rattle.bop_top.specs.declared.status.Status.TheVariants.{Done, Fine, BadWords, LoadFault, ProgramTooLong, Rejected, WriteFault, ReportFault, OutOfMemory, NotYetBuilt}
+
+-- a place behind the name of what stands there
+abbrev pub placed : List ℕ → Place → List ℕ
+placed name at = name ++ (codes " " ++ (decimal at.line ++ (codes " " ++ decimal at.column)))
+
+abbrev pub token_text : TokenFault → List ℕ
+token_text (token.BadByte at) = placed (codes "bad-byte") at
+token_text (token.OpenComment at) = placed (codes "open-comment") at
+token_text (token.BadLiteral at) = placed (codes "bad-literal") at
+token_text (token.TooLarge at) = placed (codes "too-large") at
+token_text (token.BadLine at) = placed (codes "bad-line") at
+token_text token.OutOfMemory = codes "out-of-memory"
+
+abbrev pub parse_text : ParseFault → List ℕ
+parse_text (parse.Unexpected at) = placed (codes "unexpected") at
+parse_text (parse.TooDeep at) = placed (codes "too-deep") at
+parse_text parse.OutOfMemory = codes "out-of-memory"
+
+abbrev pub kind_text : CheckKind → List ℕ
+kind_text kind.Unknown = codes "unknown"
+kind_text kind.Twice = codes "twice"
+kind_text kind.BadType = codes "bad-type"
+kind_text kind.Arguments = codes "arguments"
+kind_text kind.Marker = codes "marker"
+kind_text kind.NoMain = codes "no-main"
+kind_text kind.TooManyParameters = codes "too-many-parameters"
+
+abbrev pub check_text : CheckFault → List ℕ
+check_text (check.Breach kind at) = placed (kind_text kind) at
+check_text check.OutOfMemory = codes "out-of-memory"
+
+abbrev pub layout_text : LayoutFault → List ℕ
+layout_text layout.DataTooLarge = codes "data-too-large"
+layout_text (layout.FrameTooLarge at) = placed (codes "frame-too-large") at
+layout_text layout.OutOfMemory = codes "out-of-memory"
+
+-- why a text is rejected (none is for want of memory, or because it can't be compiled yet)
+abbrev pub rejection : Refused → List ℕ
+rejection (refused.Token fault) = token_text fault
+rejection (refused.Parse fault) = parse_text fault
+rejection (refused.Check fault) = check_text fault
+rejection (refused.Layout fault) = layout_text fault
+rejection refused.NotYetBuilt = codes "not-yet-built"
+rejection refused.OutOfMemory = codes "out-of-memory"
 
 -- the text of a status (no command ends with ReportFault, so its text is never reported)
 abbrev pub text_of : Status → List ℕ
 text_of (Done exit) = codes "done " ++ signed_decimal exit
+text_of Fine = codes "fine"
 text_of BadWords = codes "bad-words"
 text_of LoadFault = codes "load-fault"
+text_of ProgramTooLong = codes "program-too-long"
+text_of (Rejected refused) = codes "rejected " ++ rejection refused
 text_of WriteFault = codes "write-fault"
 text_of ReportFault = codes "report-fault"
 text_of OutOfMemory = codes "out-of-memory"
@@ -24,8 +84,11 @@ line status = codes "status " ++ text_of status ++ codes "\n"
 -- what was asked for was answered
 abbrev pub is_answer : Status → Bool
 is_answer (Done exit) = true
+is_answer Fine = true
 is_answer BadWords = false
 is_answer LoadFault = false
+is_answer ProgramTooLong = false
+is_answer (Rejected refused) = false
 is_answer WriteFault = false
 is_answer ReportFault = false
 is_answer OutOfMemory = false

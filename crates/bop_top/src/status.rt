@@ -2,15 +2,23 @@
 ghost use Rattle.std.specs.Prelude.{◌≡◌};
 ghost use Rattle.bop_top.specs.Codes.{code_of};
 
+use low_link::Refused;
+
 /// How a command has ended.
 #[derive(Clone, Copy, Debug, PartialEq, Eq)]
 pub enum Status {
     /// The program has exited with this value.
     Done(i32),
+    /// The text is one of the language.
+    Fine,
     /// The words ask for nothing that `bop` does.
     BadWords,
     /// The program's file could not be loaded.
     LoadFault,
+    /// The text has more than 1,048,576 bytes.
+    ProgramTooLong,
+    /// The text is at fault.
+    Rejected(Refused),
     /// The output could not be written.
     WriteFault,
     /// The command was answered, but its end could not be reported.
@@ -28,8 +36,11 @@ impl Status {
     {
         match self {
             Status::Done(_) => 0,
+            Status::Fine => 0,
             Status::BadWords => 2,
             Status::LoadFault => 3,
+            Status::ProgramTooLong => 4,
+            Status::Rejected(_) => 5,
             Status::WriteFault => 14,
             Status::ReportFault => 15,
             Status::OutOfMemory => 18,

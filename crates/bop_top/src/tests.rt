@@ -1,3 +1,5 @@
+mod checks;
+
 use super::*;
 use crate::report::report_status;
 use bop_ends::{MemShelf, MemSink};

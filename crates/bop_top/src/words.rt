@@ -1,17 +1,39 @@
 // The words of the command line, read by hand.
-ghost use Rattle.std.specs.Prelude.{◌≡◌, ◌≢◌, ◌↔◌, List, ℕ, map, string_bytes, MatchOption, IsTrue};
-ghost use Rattle.bop_top.specs.Words.{Request, Seq, IsRequest, IsName};
+ghost use Rattle.std.specs.Prelude.{◌≡◌, ◌≢◌, ◌↔◌, ◌∷◌, [], List, ℕ, map, string_bytes, MatchOption, IsTrue};
+ghost use Rattle.bop_top.specs.Words.{Request, IsRequest, IsName, request_of};
 
-/// The name in the words `seq NAME`.
-pub fn seq_name(words: &[String]) -> Option<&str>
+/// What the words ask for.
+#[derive(Clone, Copy, Debug)]
+pub enum Command<'a> {
+    /// To run the program of this name.
+    Seq(&'a str),
+    /// To check it.
+    Check(&'a str),
+}
+
+/// What the words ask for.
+pub fn command_of(words: &[String]) -> Option<Command>
     ensures { MatchOption result ((request : Request) → IsRequest (map string_bytes words.now) request → ⊥)
-        (λ name. IsRequest (map string_bytes words.now) (Seq name.now)) }
+        (λ command. IsRequest (map string_bytes words.now) (request_of command)) }
 {
     match words {
-        [command, name] if command.as_str() == "seq" && is_name(name.as_str()) => Some(
-            name.as_str(),
-        ),
+        [first, name] if is_name(name.as_str()) => of_two(first.as_str(), name.as_str()),
         _ => None,
+    }
+}
+
+// What two words ask for, of which the second is a name.
+fn of_two<'a>(first: &str, name: &'a str) -> Option<Command<'a>>
+    requires { IsName name.now }
+    ensures { MatchOption result ((request : Request) → IsRequest (first.now ∷ name.now ∷ []) request → ⊥)
+        (λ command. IsRequest (first.now ∷ name.now ∷ []) (request_of command)) }
+{
+    if first == "seq" {
+        Some(Command::Seq(name))
+    } else if first == "check" {
+        Some(Command::Check(name))
+    } else {
+        None
     }
 }
 

@@ -1,14 +1,11 @@
 -- Laws of content that grows. That nothing appended keeps it, and that appends join, are std's:
 -- `Appends-nil` and `Appends-trans` of `Rattle.std.proofs.KnownBytes`.
-use Rattle.std.proofs.Common.{ℕ, List, [], ◌++◌, take, Option}
-use Rattle.std.proofs.KnownBytes.{Appends-nil, Appends-trans}
+use Rattle.std.proofs.Common.{ℕ, List, ◌++◌, take, Option}
+use Rattle.std.proofs.KnownBytes.{Appends-trans}
 use Rattle.std.specs.Io.KnownBytes.{Appends}
 use Rattle.byte_lists.specs.Prefix.{IsPrefix}
 use Rattle.byte_lists.specs.Content.{AppendsPrefix}
-use Rattle.byte_lists.proofs.Prefixes.{IsPrefix-nil, IsPrefix-refl, IsPrefix-trans, IsPrefix-take, IsPrefix-behind}
-
-pub AppendsPrefix-nil : (a : Option (List ℕ)) (bytes : List ℕ) → AppendsPrefix a a bytes
-AppendsPrefix-nil a bytes = ([], IsPrefix-nil bytes, Appends-nil a)
+use Rattle.byte_lists.proofs.Prefixes.{IsPrefix-refl, IsPrefix-trans, IsPrefix-take, IsPrefix-behind}
 
 pub AppendsPrefix-whole : (a b : Option (List ℕ)) (bytes : List ℕ)
     → Appends a b bytes → AppendsPrefix a b bytes

@@ -301,17 +301,23 @@ at_store scope how a b at (Some t) (Some u) v f g h =
 object_is : (known : Option Known) (t : Shape) → object known ≡ Some t → known ≡ Some (ObjectOf t)
 object_is None t h = cc
 object_is (Some (ObjectOf u)) t h = ap (λ s. Some (ObjectOf s)) (some_is u t h)
-object_is (Some (FunctionOf u ps)) t h = cc
+object_is (Some (FunctionOf u ps d)) t h = cc
 
-result_is : (known : Option Known) (t : Shape) → result_of known ≡ Some t → (known ≡ Some (FunctionOf t (parameters_of known))) × (is_void t ≡ false)
+-- of a function, whether the text defines it
+is_defined : Option Known → Bool
+is_defined (Some (FunctionOf t ps d)) = d
+is_defined _ = true
+
+result_is : (known : Option Known) (t : Shape) → result_of known ≡ Some t → (known ≡ Some (FunctionOf t (parameters_of known) (is_defined known))) × (is_void t ≡ false)
+unfolding is_defined
 result_is None t h = cc
 result_is (Some (ObjectOf u)) t h = cc
-result_is (Some (FunctionOf VoidShape ps)) t h = cc
-result_is (Some (FunctionOf IntShape ps)) t h = let e = some_is IntShape t h in (ap (λ s. Some (FunctionOf s ps)) e, ap is_void (sym e))
-result_is (Some (FunctionOf UnsignedShape ps)) t h = let e = some_is UnsignedShape t h in (ap (λ s. Some (FunctionOf s ps)) e, ap is_void (sym e))
-result_is (Some (FunctionOf CharShape ps)) t h = let e = some_is CharShape t h in (ap (λ s. Some (FunctionOf s ps)) e, ap is_void (sym e))
-result_is (Some (FunctionOf (PointerTo u) ps)) t h = let e = some_is (PointerTo u) t h in (ap (λ s. Some (FunctionOf s ps)) e, ap is_void (sym e))
-result_is (Some (FunctionOf (ArrayOf u n) ps)) t h = let e = some_is (ArrayOf u n) t h in (ap (λ s. Some (FunctionOf s ps)) e, ap is_void (sym e))
+result_is (Some (FunctionOf VoidShape ps d)) t h = cc
+result_is (Some (FunctionOf IntShape ps d)) t h = let e = some_is IntShape t h in (ap (λ s. Some (FunctionOf s ps d)) e, ap is_void (sym e))
+result_is (Some (FunctionOf UnsignedShape ps d)) t h = let e = some_is UnsignedShape t h in (ap (λ s. Some (FunctionOf s ps d)) e, ap is_void (sym e))
+result_is (Some (FunctionOf CharShape ps d)) t h = let e = some_is CharShape t h in (ap (λ s. Some (FunctionOf s ps d)) e, ap is_void (sym e))
+result_is (Some (FunctionOf (PointerTo u) ps d)) t h = let e = some_is (PointerTo u) t h in (ap (λ s. Some (FunctionOf s ps d)) e, ap is_void (sym e))
+result_is (Some (FunctionOf (ArrayOf u n) ps d)) t h = let e = some_is (ArrayOf u n) t h in (ap (λ s. Some (FunctionOf s ps d)) e, ap is_void (sym e))
 
 some_right : (b : Bool) (t : Shape) → is_some (where_right b (Some t)) ≡ true → b ≡ true
 some_right true t h = refl
@@ -339,7 +345,7 @@ module _ (scope : Scope) where
         let known = called scope name in
         let taken = all_taken scope (parameters_of known) all in
         let k = result_is known t (right_gives taken (result_of known) t h) in
-        OfCall scope name all at t (parameters_of known) k.0 k.1 (all_derived (parameters_of known) all (right_is taken (result_of known) t h))
+        OfCall scope name all at t (parameters_of known) (is_defined known) k.0 k.1 (all_derived (parameters_of known) all (right_is taken (result_of known) t h))
 
     pub all_derived : (ps : List Shape) (all : Expressions) → all_taken scope ps all ≡ true → AreTaken scope ps all
     all_derived [] NoMore h = NoneTaken scope

@@ -1,6 +1,8 @@
+pub mod Acceptance
 pub mod Constants
 pub mod Derived
 pub mod Erased
+pub mod ErasedBreaches
 pub mod Erasing
 pub mod FirstOperand
 pub mod LeastBreach

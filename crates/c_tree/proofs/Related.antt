@@ -155,13 +155,13 @@ take_by : (n : Bool) (to : Shape) (x : Option Shape) (v : Shape) → option_map 
 take_by n to None v h f = cc
 take_by n to (Some u) v h f = let e : decayed u ≡ v = cc in let g : takes to n (decayed u) ≡ true = ap (takes to n) e ∙ f in rw g refl
 
-result_by : (t : Shape) (ps : List Shape) → is_void t ≡ false → result_of (Some (FunctionOf t ps)) ≡ Some t
-result_by IntShape ps h = refl
-result_by UnsignedShape ps h = refl
-result_by CharShape ps h = refl
-result_by VoidShape ps h = cc
-result_by (PointerTo t) ps h = refl
-result_by (ArrayOf t n) ps h = refl
+result_by : (t : Shape) (ps : List Shape) (d : Bool) → is_void t ≡ false → result_of (Some (FunctionOf t ps d)) ≡ Some t
+result_by IntShape ps d h = refl
+result_by UnsignedShape ps d h = refl
+result_by CharShape ps d h = refl
+result_by VoidShape ps d h = cc
+result_by (PointerTo t) ps d h = refl
+result_by (ArrayOf t n) ps d h = refl
 
 nought_type : (scope : Scope) (e : Expression) → is_nought e ≡ true → (t : Shape) × (option_map decayed (type_at scope e) ≡ Some t) × (is_integer t ≡ true)
 nought_type scope (Numeral t n at) h = let i : is_integer t ≡ true = left_true (is_integer t) _ h in (t, ap Some (settled t i), i)
@@ -228,7 +228,7 @@ mutual
       rw (p, k) s
   typed_by _ _ _ (OfElement scope a b at t u v w j) = element_by (type_at scope a) (type_at scope b) (PointerTo t) u (value_by scope a (PointerTo t) v) (value_by scope b u w) ∙ ap pointed_some (pointer_sum_by t u j)
   typed_by _ _ _ (OfElementTurned scope a b at t u v i w) = element_by (type_at scope a) (type_at scope b) t (PointerTo u) (value_by scope a t v) (value_by scope b (PointerTo u) w) ∙ sum_by t u i
-  typed_by _ _ _ (OfCall scope name all at t ps h v taken) = let k = taken_by scope ps all taken in rw (h, k) (result_by t ps v)
+  typed_by _ _ _ (OfCall scope name all at t ps d h v taken) = let k = taken_by scope ps all taken in rw (h, k) (result_by t ps d v)
 
   pub value_by : (scope : Scope) (e : Expression) (t : Shape) → HasValue scope e t → option_map decayed (type_at scope e) ≡ Some t
   value_by _ _ _ (ValueOf scope a t h) = ap (option_map decayed) (typed_by scope a t h)

@@ -1,21 +1,22 @@
 -- An expression without a breach has a type.
-use Rattle.std.proofs.Common.{◌≡◌, Bool, true, false, List, [], ◌∷◌, Option, Some, None, is_some, if◌then◌else◌, refl}
+use Rattle.std.proofs.Common.{◌≡◌, Bool, true, false, List, [], ◌∷◌, Option, Some, None, is_some, if◌then◌else◌, refl, subst, ◌&&◌}
 use Rattle.c_tree.specs.declared.operator.Unary.{Unary}
 use Rattle.c_tree.specs.declared.operator.Unary.TheVariants as unary
 use Rattle.c_tree.specs.declared.place.Place.{Place}
 use Rattle.c_tree.specs.declared.breach.Broken.TheVariants.{Mismatch, Unknown, Arguments}
 use Rattle.c_tree.specs.Syntax.{Shape, IntShape, UnsignedShape, CharShape, VoidShape, PointerTo, ArrayOf, Expression, Variable, Numeral, Letter, EndOfFile, Prefix, Stepped, Converted, Infix, Choice, Stored, Element, Called, Expressions, NoMore, Next}
 use Rattle.c_tree.specs.Scope.{Known, ObjectOf, FunctionOf, Scope, look}
+use Rattle.c_tree.specs.Shapes.{is_void}
 use Rattle.c_tree.specs.Breach.{breach, unless}
 use Rattle.c_tree.specs.Rules.{is_nought, is_place, where_right, step_rule, cast_rule, infix_rule, choice_rule, element_rule, store_rule}
 use Rattle.c_tree.specs.Typing.{type_at, all_taken, object, called, one, both, prefix_type, is_test, parameters_of, result_of, is_none_left, others, takes_first}
-use Rattle.c_tree.specs.Breaches.{breaches, breaches_in, name_breaches, prefix_breaches, place_breaches, call_breaches, possible_one, possible_both, possible_test, may_take_first, same_count, all_possible}
+use Rattle.c_tree.specs.Breaches.{breaches, breaches_in, name_breaches, prefix_breaches, place_breaches, passing_breaches, call_breaches, possible_one, possible_both, possible_test, may_take_first, same_count, all_possible}
 use Rattle.c_tree.proofs.NoBreach.{nil_left, nil_right, holds, never, left_true, right_true, and_true, is_false}
 
 name_typed : (known : Option Known) (at : Place) → name_breaches known at ≡ [] → is_some (object known) ≡ true
 name_typed None at h = cc
 name_typed (Some (ObjectOf t)) at h = refl
-name_typed (Some (FunctionOf t ps)) at h = cc
+name_typed (Some (FunctionOf t ps d)) at h = cc
 
 one_typed : (rule : Shape → Option Shape) (t : Option Shape) → is_some t ≡ true → possible_one rule t ≡ true → is_some (one rule t) ≡ true
 one_typed rule None s h = cc
@@ -58,26 +59,38 @@ takes_typed [] n t e s h = cc
 takes_typed (to ∷ more) n t e s h = one_typed (store_rule None n to) t s h
 
 -- a call without a breach counts its arguments, and none is refused
-counted : (counts fits : Bool) (at : Place) → (if counts then unless fits Mismatch at else breach Arguments at) ≡ [] → counts ≡ true
+counted : (counts fits : Bool) (at : Place) → passing_breaches false counts fits at ≡ [] → counts ≡ true
 counted true fits at h = refl
 counted false fits at h = cc
 
-fitting : (counts fits : Bool) (at : Place) → (if counts then unless fits Mismatch at else breach Arguments at) ≡ [] → fits ≡ true
+fitting : (counts fits : Bool) (at : Place) → passing_breaches false counts fits at ≡ [] → fits ≡ true
 fitting true fits at h = holds _ _ _ h
 fitting false fits at h = cc
 
-function_typed : (t : Shape) (ps : List Shape) (counts fits b : Bool) (at : Place) → call_breaches true (Some (FunctionOf t ps)) counts fits at ≡ [] → (counts ≡ true → fits ≡ true → b ≡ true) → is_some (where_right b (result_of (Some (FunctionOf t ps)))) ≡ true
-function_typed VoidShape ps counts fits b at h k = never Mismatch at h
-function_typed IntShape ps counts fits b at h k = right_typed b _ (k (counted counts fits at h) (fitting counts fits at h)) refl
-function_typed UnsignedShape ps counts fits b at h k = right_typed b _ (k (counted counts fits at h) (fitting counts fits at h)) refl
-function_typed CharShape ps counts fits b at h k = right_typed b _ (k (counted counts fits at h) (fitting counts fits at h)) refl
-function_typed (PointerTo t) ps counts fits b at h k = right_typed b _ (k (counted counts fits at h) (fitting counts fits at h)) refl
-function_typed (ArrayOf t n) ps counts fits b at h k = right_typed b _ (k (counted counts fits at h) (fitting counts fits at h)) refl
+value_typed : (t : Shape) (ps : List Shape) (d counts fits b : Bool) (at : Place) → passing_breaches (is_void t) counts fits at ≡ [] → (counts ≡ true → fits ≡ true → b ≡ true) → is_some (where_right b (result_of (Some (FunctionOf t ps d)))) ≡ true
+value_typed VoidShape ps d counts fits b at h k = never Mismatch at h
+value_typed IntShape ps d counts fits b at h k = right_typed b _ (k (counted counts fits at h) (fitting counts fits at h)) refl
+value_typed UnsignedShape ps d counts fits b at h k = right_typed b _ (k (counted counts fits at h) (fitting counts fits at h)) refl
+value_typed CharShape ps d counts fits b at h k = right_typed b _ (k (counted counts fits at h) (fitting counts fits at h)) refl
+value_typed (PointerTo t) ps d counts fits b at h k = right_typed b _ (k (counted counts fits at h) (fitting counts fits at h)) refl
+value_typed (ArrayOf t n) ps d counts fits b at h k = right_typed b _ (k (counted counts fits at h) (fitting counts fits at h)) refl
+
+used_void : (t : Shape) → (is_void t && true) ≡ is_void t
+used_void VoidShape = refl
+used_void IntShape = refl
+used_void UnsignedShape = refl
+used_void CharShape = refl
+used_void (PointerTo t) = refl
+used_void (ArrayOf t n) = refl
+
+function_typed : (t : Shape) (ps : List Shape) (d counts fits b : Bool) (at : Place) → call_breaches true (Some (FunctionOf t ps d)) counts fits at ≡ [] → (counts ≡ true → fits ≡ true → b ≡ true) → is_some (where_right b (result_of (Some (FunctionOf t ps d)))) ≡ true
+function_typed t ps d counts fits b at h k =
+    value_typed t ps d counts fits b at (subst (λ v. passing_breaches v counts fits at ≡ []) (used_void t) (nil_right (unless d Unknown at) _ h)) k
 
 call_typed : (known : Option Known) (counts fits b : Bool) (at : Place) → call_breaches true known counts fits at ≡ [] → (counts ≡ true → fits ≡ true → b ≡ true) → is_some (where_right b (result_of known)) ≡ true
 call_typed None counts fits b at h k = never Unknown at h
 call_typed (Some (ObjectOf t)) counts fits b at h k = never Mismatch at h
-call_typed (Some (FunctionOf t ps)) counts fits b at h k = function_typed t ps counts fits b at h k
+call_typed (Some (FunctionOf t ps d)) counts fits b at h k = function_typed t ps d counts fits b at h k
 
 module _ (scope : Scope) where
   mutual

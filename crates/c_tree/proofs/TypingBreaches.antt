@@ -5,14 +5,14 @@ use Rattle.c_tree.specs.declared.operator.Unary.TheVariants as unary
 use Rattle.c_tree.specs.declared.place.Place.{Place}
 use Rattle.c_tree.specs.declared.breach.Breach.{Breach}
 use Rattle.c_tree.specs.declared.breach.Broken.{Broken}
-use Rattle.c_tree.specs.declared.breach.Broken.TheVariants.{Mismatch, NotAPlace, Arguments}
+use Rattle.c_tree.specs.declared.breach.Broken.TheVariants.{Unknown, Mismatch, NotAPlace, Arguments}
 use Rattle.c_tree.specs.Syntax.{Shape, Expression, Variable, Numeral, Letter, EndOfFile, Prefix, Stepped, Converted, Infix, Choice, Stored, Element, Called, Expressions, NoMore, Next}
 use Rattle.c_tree.specs.Scope.{Known, ObjectOf, FunctionOf, Scope, look}
 use Rattle.c_tree.specs.Shapes.{is_void}
 use Rattle.c_tree.specs.Breach.{breach, unless, is_typing}
 use Rattle.c_tree.specs.Rules.{is_place}
 use Rattle.c_tree.specs.Typing.{type_at, called}
-use Rattle.c_tree.specs.Breaches.{breaches, breaches_in, name_breaches, prefix_breaches, place_breaches, call_breaches}
+use Rattle.c_tree.specs.Breaches.{breaches, breaches_in, name_breaches, prefix_breaches, place_breaches, passing_breaches, call_breaches}
 use Rattle.c_tree.proofs.LeastBreach.{HasEach}
 
 pub each-append : (p : Broken → Bool) (xs ys : List Breach) → HasEach p xs → HasEach p ys → HasEach p (xs ++ ys)
@@ -26,7 +26,7 @@ each_unless p false kind at h = (h, tt)
 name_kinds : (known : Option Known) (at : Place) → HasEach is_typing (name_breaches known at)
 name_kinds None at = (refl, tt)
 name_kinds (Some (ObjectOf t)) at = tt
-name_kinds (Some (FunctionOf t ps)) at = (refl, tt)
+name_kinds (Some (FunctionOf t ps d)) at = (refl, tt)
 
 prefix_kinds : (op : Unary) (place : Bool) (t : Option Shape) (at : Place) → HasEach is_typing (prefix_breaches op place t at)
 prefix_kinds unary.Address place t at = each_unless is_typing place NotAPlace at refl
@@ -40,7 +40,7 @@ place_kinds : (place possible : Bool) (at : Place) → HasEach is_typing (place_
 place_kinds true possible at = each_unless is_typing possible Mismatch at refl
 place_kinds false possible at = (refl, tt)
 
-count_kinds : (void counts fits : Bool) (at : Place) → HasEach is_typing (if void then breach Mismatch at else if counts then unless fits Mismatch at else breach Arguments at)
+count_kinds : (void counts fits : Bool) (at : Place) → HasEach is_typing (passing_breaches void counts fits at)
 count_kinds true counts fits at = (refl, tt)
 count_kinds false true fits at = each_unless is_typing fits Mismatch at refl
 count_kinds false false fits at = (refl, tt)
@@ -48,7 +48,7 @@ count_kinds false false fits at = (refl, tt)
 call_kinds : (used : Bool) (known : Option Known) (counts fits : Bool) (at : Place) → HasEach is_typing (call_breaches used known counts fits at)
 call_kinds used None counts fits at = (refl, tt)
 call_kinds used (Some (ObjectOf t)) counts fits at = (refl, tt)
-call_kinds used (Some (FunctionOf t ps)) counts fits at = count_kinds (is_void t && used) counts fits at
+call_kinds used (Some (FunctionOf t ps d)) counts fits at = each-append is_typing (unless d Unknown at) _ (each_unless is_typing d Unknown at refl) (count_kinds (is_void t && used) counts fits at)
 
 module _ (scope : Scope) where
   mutual

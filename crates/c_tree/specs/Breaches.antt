@@ -43,7 +43,7 @@ may_take_first (to ∷ more) nought t = possible_one (store_rule None nought to)
 -- a name stands for an object (C11 6.5.1)
 abbrev pub name_breaches : Option Known → Place → List Breach
 name_breaches None at = breach Unknown at
-name_breaches (Some (FunctionOf t parameters)) at = breach Mismatch at
+name_breaches (Some (FunctionOf t parameters defined)) at = breach Mismatch at
 name_breaches (Some (ObjectOf t)) at = []
 
 abbrev pub place_breaches : Bool → Bool → Place → List Breach
@@ -54,13 +54,17 @@ prefix_breaches unary.Address place t at = unless place NotAPlace at
 prefix_breaches op place t at = unless (possible_one (prefix_rule op) t) Mismatch at
 
 -- a void value that is used is a mismatch whatever else is wrong, and a wrong count excludes a mismatch of an argument (6.5.2.2)
+abbrev pub passing_breaches : Bool → Bool → Bool → Place → List Breach
+passing_breaches void_used counts fits at =
+    if void_used then breach Mismatch at
+    else if counts then unless fits Mismatch at
+    else breach Arguments at
+
+-- a function that is called and never defined is unknown
 abbrev pub call_breaches : Bool → Option Known → Bool → Bool → Place → List Breach
 call_breaches used None counts fits at = breach Unknown at
 call_breaches used (Some (ObjectOf t)) counts fits at = breach Mismatch at
-call_breaches used (Some (FunctionOf t parameters)) counts fits at =
-    if is_void t && used then breach Mismatch at
-    else if counts then unless fits Mismatch at
-    else breach Arguments at
+call_breaches used (Some (FunctionOf t parameters defined)) counts fits at = unless defined Unknown at ++ passing_breaches (is_void t && used) counts fits at
 
 -- one argument for each parameter
 abbrev pub same_count : List Shape → Expressions → Bool

@@ -1,5 +1,5 @@
 -- The typing rules as a relation, one constructor a rule (C11 6.5).
-use Rattle.std.specs.Prelude.{◌≡◌, ℕ, true, false, List, [], ◌∷◌, Some, None}
+use Rattle.std.specs.Prelude.{Bool, ◌≡◌, ℕ, true, false, List, [], ◌∷◌, Some, None}
 use Rattle.c_tree.specs.declared.operator.Binary.{Binary}
 use Rattle.c_tree.specs.declared.operator.Binary.TheVariants as binary
 use Rattle.c_tree.specs.declared.operator.Unary.{Unary}
@@ -83,7 +83,7 @@ mutual
     OfPointerUpdate : (scope : Scope) (op : Binary) (a b : Expression) (at : Place) (t u : Shape) → is_sum op ≡ true → is_place a ≡ true → HasType scope a (PointerTo t) → HasValue scope b u → is_integer u ≡ true → HasType scope (Stored (Some op) a b at) (PointerTo t)
     OfElement : (scope : Scope) (a b : Expression) (at : Place) (t u : Shape) → HasValue scope a (PointerTo t) → HasValue scope b u → is_integer u ≡ true → HasType scope (Element a b at) t
     OfElementTurned : (scope : Scope) (a b : Expression) (at : Place) (t u : Shape) → HasValue scope a t → is_integer t ≡ true → HasValue scope b (PointerTo u) → HasType scope (Element a b at) u
-    OfCall : (scope : Scope) (name : Callee) (all : Expressions) (at : Place) (t : Shape) (ps : List Shape) → called scope name ≡ Some (FunctionOf t ps) → is_void t ≡ false → AreTaken scope ps all → HasType scope (Called name all at) t
+    OfCall : (scope : Scope) (name : Callee) (all : Expressions) (at : Place) (t : Shape) (ps : List Shape) (defined : Bool) → called scope name ≡ Some (FunctionOf t ps defined) → is_void t ≡ false → AreTaken scope ps all → HasType scope (Called name all at) t
 
   -- the type of its value, where an array is a pointer to its first element
   pub data HasValue : Scope → Expression → Shape → Type 0 where

@@ -36,17 +36,17 @@ object _ = None
 -- what a call names
 abbrev pub called : Scope → Callee → Option Known
 called scope (callee.Name name) = look scope name
-called scope callee.Getchar = Some (FunctionOf IntShape [])
-called scope callee.Putchar = Some (FunctionOf IntShape (IntShape ∷ []))
+called scope callee.Getchar = Some (FunctionOf IntShape [] true)
+called scope callee.Putchar = Some (FunctionOf IntShape (IntShape ∷ []) true)
 
 -- the type of a call's value; a void function has none
 abbrev pub result_of : Option Known → Option Shape
-result_of (Some (FunctionOf VoidShape parameters)) = None
-result_of (Some (FunctionOf t parameters)) = Some t
+result_of (Some (FunctionOf VoidShape parameters defined)) = None
+result_of (Some (FunctionOf t parameters defined)) = Some t
 result_of _ = None
 
 abbrev pub parameters_of : Option Known → List Shape
-parameters_of (Some (FunctionOf t parameters)) = parameters
+parameters_of (Some (FunctionOf t parameters defined)) = parameters
 parameters_of _ = []
 
 abbrev pub is_none_left : List Shape → Bool

@@ -1,7 +1,10 @@
 //! Laws of erasing markers.
 
 ghost use Rattle.std.specs.Prelude.{◌≡◌, List, []};
+ghost use Rattle.c_tree.specs.declared.tree.Tree.{Tree};
 ghost use Rattle.c_tree.specs.Syntax.{Part};
+ghost use Rattle.c_tree.specs.View.{parts};
+ghost use Rattle.c_tree.specs.Accepted.{Accepted};
 ghost use Rattle.c_tree.specs.Erase.{erased_text};
 ghost use Rattle.c_tree.specs.Markers.{text_markers};
 
@@ -18,4 +21,9 @@ pub fn unmarked_text_stays()
 /// Erasing twice is erasing once.
 pub fn erasing_twice_is_erasing_once()
     ensures { (text : List Part) → erased_text (erased_text text) ≡ erased_text text }
+{}
+
+/// The erased tree of an accepted tree is accepted.
+pub fn erased_tree_is_accepted()
+    ensures { (tree bare : Tree) → parts bare ≡ erased_text (parts tree) → Accepted tree → Accepted bare }
 {}

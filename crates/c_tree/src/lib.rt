@@ -3,8 +3,10 @@
 
 mod bare;
 mod breach;
+mod checked;
 mod copy;
 mod ctype;
+mod edge;
 mod law;
 mod memory;
 mod name;
@@ -18,8 +20,10 @@ mod undefined;
 
 pub use bare::erase;
 pub use breach::{Breach, Broken, Least, Ranking};
+pub use checked::Checked;
 pub use ctype::CType;
-pub use law::{erased_text_has_no_marker, erasing_twice_is_erasing_once, unmarked_text_stays};
+pub use edge::Edge;
+pub use law::{erased_tree_is_accepted, erased_text_has_no_marker, erasing_twice_is_erasing_once, unmarked_text_stays};
 pub use memory::OutOfMemory;
 pub use name::Name;
 pub use operator::{Binary, Keep, Step, Unary};

@@ -1,5 +1,5 @@
 -- What a call names, and what it takes.
-use Rattle.std.specs.Prelude.{List, [], ◌∷◌, Option, Some, map}
+use Rattle.std.specs.Prelude.{true, List, [], ◌∷◌, Option, Some, map}
 use Rattle.std.specs.Option.{option_map, option_copied}
 use Rattle.c_tree.specs.Syntax.{Shape, IntShape}
 use Rattle.c_tree.specs.Scope.{Known, FunctionOf}
@@ -12,8 +12,8 @@ use Rattle.c_types.specs.Env.{known}
 
 abbrev pub target : Target → Option Known
 target (Found name) = option_map known (option_copied name)
-target Getchar = Some (FunctionOf IntShape [])
-target Putchar = Some (FunctionOf IntShape (IntShape ∷ []))
+target Getchar = Some (FunctionOf IntShape [] true)
+target Putchar = Some (FunctionOf IntShape (IntShape ∷ []) true)
 
 abbrev pub parameters : Parameters → List Shape
 parameters (Listed types) = map shape types.now

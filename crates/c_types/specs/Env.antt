@@ -12,7 +12,7 @@ use Rattle.c_types.specs.declared.env.Known.TheVariants.{Object, Function}
 
 abbrev pub known : Entry → Known
 known (Object ty) = ObjectOf (shape ty)
-known (Function result parameters) = FunctionOf (shape result) (map shape parameters.items)
+known (Function result parameters defined) = FunctionOf (shape result) (map shape parameters.items) defined
 
 abbrev pub frame_of : Block → Frame
 frame_of block = λ name. option_map known (get_by (λ key. slice_cmp nat_cmp name key.items) block.names)

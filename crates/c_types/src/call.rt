@@ -1,13 +1,13 @@
 //! Calls: what they name, and whether their arguments fit.
 
-ghost use Rattle.std.specs.Prelude.{◌≡◌, ◌&&◌, not, is_some, map, None, Some, if◌then◌else◌};
+ghost use Rattle.std.specs.Prelude.{◌≡◌, ◌&&◌, false, not, is_some, map, None, Some, if◌then◌else◌};
 ghost use Rattle.std.specs.Option.{option_map, option_copied};
 ghost use Rattle.c_tree.specs.Syntax.{IntShape};
 ghost use Rattle.c_tree.specs.View.{shape};
 ghost use Rattle.c_tree.specs.Breach.{least_of, breach, unless};
 ghost use Rattle.c_tree.specs.Rules.{store_rule, where_right};
 ghost use Rattle.c_tree.specs.Typing.{one, called, result_of, parameters_of, is_none_left, others, takes_first};
-ghost use Rattle.c_tree.specs.Breaches.{possible_one, may_take_first, call_breaches};
+ghost use Rattle.c_tree.specs.Breaches.{possible_one, may_take_first, passing_breaches, call_breaches};
 ghost use Rattle.c_types.specs.Env.{scope_of, known};
 ghost use Rattle.c_types.specs.Seen.{seen, seen_some};
 ghost use Rattle.c_types.specs.Call.{target, parameters};
@@ -50,7 +50,9 @@ impl<'a> Target<'a> {
         ensures { parameters result ≡ parameters_of (target self.entry) }
     {
         match self {
-            Target::Found(Some(Known::Function(_, types))) => Parameters::Listed(types.as_slice()),
+            Target::Found(Some(Known::Function(_, types, _))) => Parameters::Listed(
+                types.as_slice(),
+            ),
             Target::Found(_) => Parameters::Listed(&[]),
             Target::Getchar => Parameters::Listed(&[]),
             Target::Putchar => Parameters::OneInt,
@@ -166,7 +168,7 @@ fn pass_listed<'a>(passed: Passed, types: &'a [CType], nought: bool, ty: Option<
 
 /// Notes what a call of a function breaks.
 fn note_call(is_void_used: bool, passed: Passed, at: Place, least: &mut Least)
-    ensures { least.new ≡ least_of least.old (if is_void_used then breach Broken.Mismatch at else if passed.counts then unless passed.fits Broken.Mismatch at else breach Broken.Arguments at) }
+    ensures { least.new ≡ least_of least.old (passing_breaches is_void_used passed.counts passed.fits at) }
 {
     if is_void_used {
         note(least, false, Broken::Mismatch, at);
@@ -196,8 +198,9 @@ fn call_known<'a>(
             note(least, false, Broken::Mismatch, at);
             None
         }
-        Some(Known::Function(result_type, _)) => {
+        Some(Known::Function(result_type, _, is_defined)) => {
             let void = is_void(result_type);
+            note(least, *is_defined, Broken::Unknown, at);
             note_call(void && used, passed, at, least);
             if passed.typed && !void {
                 Some(Seen::of(result_type))
@@ -210,7 +213,7 @@ fn call_known<'a>(
 
 fn call_built_in<'a>(passed: Passed, at: Place, least: &mut Least) -> Option<Seen<'a>>
     ensures ty { seen_some result ≡ where_right passed.typed (Some IntShape) }
-    ensures least { least.new ≡ least_of least.old (if passed.counts then unless passed.fits Broken.Mismatch at else breach Broken.Arguments at) }
+    ensures least { least.new ≡ least_of least.old (passing_breaches false passed.counts passed.fits at) }
 {
     note_call(false, passed, at, least);
     if passed.typed {

@@ -1,6 +1,6 @@
 //! The names in scope.
 
-ghost use Rattle.std.specs.Prelude.{◌≡◌, [], ◌∷◌, ◌++◌, ◌<◌, Some, None, length, IfOk, OnOk, OnErr, option_map, is_some, map};
+ghost use Rattle.std.specs.Prelude.{◌≡◌, [], ◌∷◌, ◌++◌, ◌<◌, Some, None, length, IfOk, OnOk, OnErr, option_map, is_some, map, true};
 ghost use Rattle.std.specs.Option.{option_copied};
 ghost use Rattle.c_tree.specs.Scope.{look, look_outer, entered, empty_scope, declared, ObjectOf, FunctionOf};
 ghost use Rattle.c_tree.specs.View.{shape};
@@ -11,11 +11,11 @@ use std::alloc::Global;
 use std::collections::BTreeMap;
 use std::mem;
 
-/// What a name stands for: an object of a type, or a function by its result and its parameters' types.
+/// What a name stands for: an object of a type, or a function by its result, its parameters' types and whether the text defines it.
 #[derive(Debug, Drop)]
 pub enum Known {
     Object(CType),
-    Function(CType, Vec<CType>),
+    Function(CType, Vec<CType>, bool),
 }
 
 /// The names of a block, by their bytes.
@@ -109,17 +109,38 @@ impl Env {
         result_type: CType,
         params: Vec<CType>,
     ) -> Result<(), OutOfMemory>
-        ensures declared { OnOk result (scope_of self.new ≡ declared name.now (FunctionOf (shape result_type) (map shape params.items)) (scope_of self.old)) }
+        ensures declared { OnOk result (scope_of self.new ≡ declared name.now (FunctionOf (shape result_type) (map shape params.items) true) (scope_of self.old)) }
         ensures refused { OnErr result (scope_of self.new ≡ scope_of self.old) }
     {
-        self.bind(name, Known::Function(result_type, params))
+        self.bind(name, Known::Function(result_type, params, true))
+    }
+
+    /// The same of a function that the text may declare and not define.
+    pub fn declare_fun_of(
+        &mut self,
+        name: &Name,
+        result_type: CType,
+        params: Vec<CType>,
+        is_defined: bool,
+    ) -> Result<(), OutOfMemory>
+        ensures declared { OnOk result (scope_of self.new ≡ declared name.now (FunctionOf (shape result_type) (map shape params.items) is_defined) (scope_of self.old)) }
+        ensures refused { OnErr result (scope_of self.new ≡ scope_of self.old) }
+    {
+        self.bind(name, Known::Function(result_type, params, is_defined))
+    }
+
+    /// What a name stands for in the innermost block.
+    pub fn find_here(&self, name: &Name) -> Option<&Known>
+        ensures { option_map known (option_copied result) ≡ (scope_of self.now).inner name.now }
+    {
+        self.inner.find(name)
     }
 
     /// Whether the innermost block declares a name.
     pub fn is_here(&self, name: &Name) -> bool
         ensures { result ≡ is_some ((scope_of self.now).inner name.now) }
     {
-        self.inner.find(name).is_some()
+        self.find_here(name).is_some()
     }
 
     /// What a name stands for: the innermost block that declares it counts.

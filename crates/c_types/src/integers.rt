@@ -52,7 +52,8 @@ impl Integer {
         }
     }
 
-    pub(crate) fn is_unsigned(self) -> bool
+    /// Whether it is unsigned.
+    pub fn is_unsigned(self) -> bool
         ensures { result ≡ is_unsigned (integer self) }
     {
         matches!(self, Integer::Unsigned)

@@ -74,7 +74,7 @@ fn name<'a>(found: Option<&'a Known>, place: Place, least: &mut Least) -> Option
             None
         }
         Some(Known::Object(ty)) => Some(Seen::of(ty)),
-        Some(Known::Function(_, _)) => {
+        Some(Known::Function(_, _, _)) => {
             note(least, false, Broken::Mismatch, place);
             None
         }

@@ -1,4 +1,6 @@
-pub mod Form
 pub mod Code
-pub mod Reading
+pub mod Form
+pub mod Front
 pub mod Laws
+pub mod Reading
+pub mod Refused

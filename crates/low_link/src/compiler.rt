@@ -1,8 +1,9 @@
 // The code of a text of the form.
-ghost use Rattle.std.specs.Prelude.{◌≡◌, ◌++◌, ◌∷◌, [], ◌<◌, ◌≤ℤ◌, ◌^◌, List, ℕ, ℤ, pos, IfOk, OnOk, IsErrOf, length, ◌≤◌};
+ghost use Rattle.std.specs.Prelude.{◌≡◌, ◌++◌, ◌∷◌, [], ◌<◌, ◌≤ℤ◌, ◌^◌, List, ℕ, ℤ, pos, IfOk, IfErr, OnOk, IsErrOf, length, ◌≤◌};
 ghost use Rattle.bop_bits.specs.declared.map.TheConstants.{CODE_WORDS};
 ghost use Rattle.rv_code.specs.Table.{IsInstr, word_of};
 ghost use Rattle.low_link.specs.Form.{IsForm};
+ghost use Rattle.low_link.specs.Refused.{IsUnbuilt};
 ghost use Rattle.low_link.specs.Code.{put_code, puts_code, return_code, code_of, upper_of, lower_of, IsProgramOf};
 
 use crate::Refused;
@@ -15,6 +16,7 @@ use std::alloc::{AllocError, Global};
 pub fn compile(alloc: Global, text: &[u8]) -> Result<Program, Refused>
     ensures program { IfOk result (λ program. IsProgramOf text.now program) }
     ensures fits { IfOk result (λ program. length program.code ≤ CODE_WORDS) }
+    ensures only { IfErr result IsUnbuilt }
     ensures refused { IsErrOf result Refused.NotYetBuilt → (characters : List ℕ) (exit : ℤ) → IsForm text.now characters exit → ⊥ }
 {
     let form = read_form(alloc, text)?;

@@ -1,9 +1,10 @@
 // Reading a text of the form.
-ghost use Rattle.std.specs.Prelude.{◌≡◌, ◌≤◌, ◌++◌, ◌<◌, List, ℕ, ℤ, IfOk, IsErrOf, IsTrue, ◌↔◌, MatchOption, length};
+ghost use Rattle.std.specs.Prelude.{◌≡◌, ◌≤◌, ◌++◌, ◌<◌, List, ℕ, ℤ, IfOk, IfErr, IsErrOf, IsTrue, ◌↔◌, MatchOption, length};
 ghost use Rattle.std.specs.Char.{IsAsciiDigit};
 ghost use Rattle.std.specs.List.{All, AllByRecursion};
 ghost use Rattle.low_link.specs.Form.{IsPlain, HasLeadingZero, IsConstant, IsEnd, IsReturn, IsForm, put_text, puts_text};
 ghost use Rattle.low_link.specs.Reading.{BeginsNoPut};
+ghost use Rattle.low_link.specs.Refused.{IsUnbuilt};
 
 use crate::Refused;
 use std::alloc::{AllocError, Global};
@@ -22,6 +23,7 @@ pub struct Form {
 /// Reads a text of the form.
 pub fn read_form(alloc: Global, text: &[u8]) -> Result<Form, Refused>
     ensures form { IfOk result (λ form. IsForm text.now form.characters.items form.exit) }
+    ensures only { IfErr result IsUnbuilt }
     ensures refused { IsErrOf result Refused.NotYetBuilt → (characters : List ℕ) (exit : ℤ) → IsForm text.now characters exit → ⊥ }
 {
     let Some(body) = without_front(text, b"int main(void){") else {

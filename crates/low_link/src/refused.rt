@@ -1,10 +1,22 @@
 // Why a text has no program.
 
+use c_check::CheckFault;
+use c_expr::ParseFault;
+use c_layout::LayoutFault;
+use c_token::TokenFault;
 use std::alloc::{AllocError, AllocFailed};
 
 /// Why a text has no program.
 #[derive(Clone, Copy, Debug, PartialEq, Eq)]
 pub enum Refused {
+    /// The text has no tokens.
+    Token(TokenFault),
+    /// Its tokens have no tree.
+    Parse(ParseFault),
+    /// Its tree breaks a rule.
+    Check(CheckFault),
+    /// Its objects don't fit into the memory.
+    Layout(LayoutFault),
     /// The compiler doesn't know this kind of text yet.
     NotYetBuilt,
     /// There was no memory.
@@ -30,5 +42,61 @@ impl<T: Drop> From<AllocFailed<T>> for Refused {
 
     fn from(_: AllocFailed<T>) -> Self {
         Refused::OutOfMemory
+    }
+}
+
+impl From<TokenFault> for Refused {
+    ghost use Rattle.std.specs.Prelude.{◌≡◌};
+    ghost use Rattle.low_link.specs.Refused.{of_token};
+
+    ghost from_gives = { λ fault refused. refused ≡ of_token fault };
+
+    fn from(fault: TokenFault) -> Self {
+        match fault {
+            TokenFault::OutOfMemory => Refused::OutOfMemory,
+            fault => Refused::Token(fault),
+        }
+    }
+}
+
+impl From<ParseFault> for Refused {
+    ghost use Rattle.std.specs.Prelude.{◌≡◌};
+    ghost use Rattle.low_link.specs.Refused.{of_parse};
+
+    ghost from_gives = { λ fault refused. refused ≡ of_parse fault };
+
+    fn from(fault: ParseFault) -> Self {
+        match fault {
+            ParseFault::OutOfMemory => Refused::OutOfMemory,
+            fault => Refused::Parse(fault),
+        }
+    }
+}
+
+impl From<CheckFault> for Refused {
+    ghost use Rattle.std.specs.Prelude.{◌≡◌};
+    ghost use Rattle.low_link.specs.Refused.{of_check};
+
+    ghost from_gives = { λ fault refused. refused ≡ of_check fault };
+
+    fn from(fault: CheckFault) -> Self {
+        match fault {
+            CheckFault::OutOfMemory => Refused::OutOfMemory,
+            fault => Refused::Check(fault),
+        }
+    }
+}
+
+impl From<LayoutFault> for Refused {
+    ghost use Rattle.std.specs.Prelude.{◌≡◌};
+    ghost use Rattle.low_link.specs.Refused.{of_layout};
+
+    ghost from_gives = { λ fault refused. refused ≡ of_layout fault };
+
+    fn from(fault: LayoutFault) -> Self {
+        match fault {
+            LayoutFault::OutOfMemory => Refused::OutOfMemory,
+            fault => Refused::Layout(fault),
+        }
     }
 }

@@ -1,0 +1,5 @@
+pub mod DefinedNames
+pub mod Initialisers
+pub mod Regions
+pub mod SameTypes
+pub mod Scopes

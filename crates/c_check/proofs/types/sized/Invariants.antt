@@ -1,0 +1,13 @@
+use Rattle.std.proofs.Common.{◌≡◌, ◌≤◌, drop, length}
+use Rattle.c_tree.specs.Declarators.{sized}
+use Rattle.c_tree.specs.View.{expressions, shape}
+use Rattle.c_check.proofs.types.sized.Given as goal
+
+abbrev pub invariant-loop-left : goal.invariant-loop-left
+invariant-loop-left l = record {
+  within : l.left ≤ length l.sizes;
+  sized : shape l.ty ≡ sized (expressions (drop l.left l.sizes)) (shape l.fn.element);
+}
+
+abbrev pub decreases-loop-left : goal.decreases-loop-left
+decreases-loop-left l = l.left

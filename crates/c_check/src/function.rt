@@ -1,0 +1,185 @@
+//! Functions (C11 6.7.6.3, 6.9.1).
+
+ghost use Rattle.std.specs.Prelude.{◌≡◌, ◌&&◌, ◌++◌, map, option_map, Some, IfOk, OnOk};
+ghost use Rattle.std.specs.Option.{option_copied};
+ghost use Rattle.c_tree.specs.Accepted.{result_shape, parameter_shapes, same_all, again_breaches, parameter_name_breaches, with_name, with_parameter, with_parameters, parameters_breaches, definition_breaches};
+ghost use Rattle.c_tree.specs.Breach.{least_of, unless};
+ghost use Rattle.c_tree.specs.Declarators.{parameter_shape};
+ghost use Rattle.c_tree.specs.Scope.{entered};
+ghost use Rattle.c_tree.specs.View.{shape, parameter, function, statements};
+ghost use Rattle.c_types.specs.Env.{scope_of, known};
+ghost use Rattle.c_check.specs.Functions.{declared_function, heading_breaches, routine_breaches};
+
+use crate::statement::check_body;
+use crate::types::{pointed, pointer_where};
+use c_tree::{Broken, CType, Fun, Least, Name, OutOfMemory, Param, Place};
+use c_types::{Env, Known, note, same_type};
+use std::alloc::Global;
+
+/// The most parameters that a function can have.
+const MOST_PARAMETERS: usize = 8;
+
+fn parameter_type(alloc: Global, p: &Param) -> Result<CType, OutOfMemory>
+    ensures { IfOk result (λ ty. shape ty ≡ parameter_shape (parameter p.now)) }
+{
+    let ty = pointed(alloc, &p.base, p.stars)?;
+    pointer_where(alloc, p.array, ty)
+}
+
+fn types_of(alloc: Global, params: &[Param]) -> Result<Vec<CType>, OutOfMemory>
+    ensures { IfOk result (λ types. map shape types.items ≡ parameter_shapes (map parameter params.now)) }
+{
+    let mut types = Vec::new(alloc);
+    for p in params {
+        types.push(parameter_type(alloc, p)?)?;
+    }
+    Ok(types)
+}
+
+fn same_types(a: &[CType], b: &[CType]) -> bool
+    ensures { result ≡ same_all (map shape a.now) (map shape b.now) }
+{
+    if a.len() != b.len() {
+        return false;
+    }
+    for i in 0..a.len() {
+        if !same_type(&a[i], &b[i]) {
+            return false;
+        }
+    }
+    true
+}
+
+/// Notes a name that is a variable already, or a function of another type.
+fn check_again(
+    found: Option<&Known>,
+    gives: &CType,
+    types: &[CType],
+    place: Place,
+    least: &mut Least,
+)
+    ensures { least.new ≡ least_of least.old (again_breaches (option_map known (option_copied found.entry)) (shape gives.now) (map shape types.now) place) }
+{
+    match found {
+        None => {}
+        Some(Known::Object(_)) => note(least, false, Broken::Twice, place),
+        Some(Known::Function(result_type, params, _)) => {
+            let same = same_type(result_type, gives) && same_types(params, types);
+            note(least, same, Broken::Mismatch, place);
+        }
+    }
+}
+
+/// Notes what a function's heading breaks, whose name is then in scope.
+#[tactic(auto, using(c_tree::proofs::LeastBreach::append_rules))]
+fn check_heading(
+    alloc: Global,
+    f: &Fun,
+    gives: &CType,
+    is_defined: bool,
+    env: &mut Env,
+    least: &mut Least,
+) -> Result<(), OutOfMemory>
+    requires { shape gives.now ≡ result_shape (function f.now) }
+    ensures scope { OnOk result (scope_of env.new ≡ declared_function is_defined (function f.now) (scope_of env.old)) }
+    ensures least { OnOk result (least.new ≡ least_of least.old (heading_breaches (scope_of env.old) (function f.now))) }
+{
+    let types = types_of(alloc, &f.params)?;
+    check_again(env.find_here(&f.name), gives, &types, f.place, least);
+    let few = f.params.len() <= MOST_PARAMETERS;
+    note(least, few, Broken::TooManyParameters, f.place);
+    env.declare_fun_of(&f.name, gives.again(alloc)?, types, is_defined)
+}
+
+/// Notes a parameter without a name, or with one that another has.
+fn check_name(name: &Option<Name>, place: Place, env: &Env, least: &mut Least)
+    ensures { least.new ≡ least_of least.old (parameter_name_breaches (scope_of env.now) name.now place) }
+{
+    match name {
+        None => note(least, false, Broken::Arguments, place),
+        Some(name) => note(least, !env.is_here(name), Broken::Twice, place),
+    }
+}
+
+fn declare_name(name: &Option<Name>, ty: CType, env: &mut Env) -> Result<(), OutOfMemory>
+    ensures { OnOk result (scope_of env.new ≡ with_name name.now (shape ty) (scope_of env.old)) }
+{
+    match name {
+        None => Ok(()),
+        Some(name) => env.declare(name, ty),
+    }
+}
+
+fn check_parameter(
+    alloc: Global,
+    p: &Param,
+    env: &mut Env,
+    least: &mut Least,
+) -> Result<(), OutOfMemory>
+    ensures scope { OnOk result (scope_of env.new ≡ with_parameter (parameter p.now) (scope_of env.old)) }
+    ensures least { OnOk result (least.new ≡ least_of least.old (parameter_name_breaches (scope_of env.old) p.now.name p.now.place)) }
+{
+    check_name(&p.name, p.place, env, least);
+    let ty = parameter_type(alloc, p)?;
+    declare_name(&p.name, ty, env)
+}
+
+/// Notes what the parameters of a definition break, whose names are then in scope.
+#[tactic(auto, using(c_tree::proofs::LeastBreach::append_rules))]
+fn check_parameters(
+    alloc: Global,
+    params: &[Param],
+    env: &mut Env,
+    least: &mut Least,
+) -> Result<(), OutOfMemory>
+    ensures scope { OnOk result (scope_of env.new ≡ with_parameters (map parameter params.now) (scope_of env.old)) }
+    ensures least { OnOk result (least.new ≡ least_of least.old (parameters_breaches (scope_of env.old) (map parameter params.now))) }
+{
+    for p in params {
+        check_parameter(alloc, p, env, least)?;
+    }
+    Ok(())
+}
+
+/// Notes what a definition breaks. The parameters are in the block of the body.
+#[tactic(auto, using(c_tree::proofs::LeastBreach::append_rules))]
+fn check_definition(
+    alloc: Global,
+    f: &Fun,
+    gives: &CType,
+    was_defined: bool,
+    env: &mut Env,
+    least: &mut Least,
+) -> Result<(), OutOfMemory>
+    requires { shape gives.now ≡ result_shape (function f.now) }
+    ensures scope { OnOk result (scope_of env.new ≡ scope_of env.old) }
+    ensures least { OnOk result (least.new ≡ least_of least.old (definition_breaches was_defined (scope_of env.old) (function f.now) (function f.now).body)) }
+{
+    let Some(body) = &f.body else {
+        return Ok(());
+    };
+    note(least, !was_defined, Broken::Twice, f.place);
+    env.enter()?;
+    check_parameters(alloc, &f.params, env, least)?;
+    check_body(alloc, body, gives, false, env, least)?;
+    env.leave();
+    Ok(())
+}
+
+/// Notes what a function breaks, whose name is then in scope: the text defines it, or not, and did so before, or not.
+#[tactic(auto, using(c_tree::proofs::LeastBreach::append_rules))]
+pub(crate) fn check_function(
+    alloc: Global,
+    f: &Fun,
+    is_defined: bool,
+    was_defined: bool,
+    env: &mut Env,
+    least: &mut Least,
+) -> Result<(), OutOfMemory>
+    ensures scope { OnOk result (scope_of env.new ≡ declared_function is_defined (function f.now) (scope_of env.old)) }
+    ensures least { OnOk result (least.new ≡ least_of least.old (routine_breaches is_defined was_defined (scope_of env.old) (function f.now))) }
+{
+    let gives = pointed(alloc, &f.base, f.stars)?;
+    check_heading(alloc, f, &gives, is_defined, env, least)?;
+    check_definition(alloc, f, &gives, was_defined, env, least)
+}

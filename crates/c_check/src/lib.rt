@@ -1,0 +1,21 @@
+//! Trees checked against the rules of the language.
+#![tactic(auto)]
+
+mod declarator;
+mod defined;
+mod edge;
+mod fault;
+mod function;
+mod initialiser;
+mod main_function;
+mod marker;
+mod region;
+mod sizes;
+mod statement;
+#[cfg(test)]
+mod tests;
+mod text;
+mod types;
+
+pub use fault::{CheckFault, CheckKind};
+pub use text::check;

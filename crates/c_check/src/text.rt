@@ -1,0 +1,96 @@
+//! Whole texts (C11 6.9).
+
+ghost use Rattle.std.specs.Prelude.{◌≡◌, ◌++◌, [], List, map, IfOk, OnOk, MatchResult};
+ghost use Rattle.c_tree.specs.Accepted.{part_breaches, behind_part, parts_breaches, text_breaches, text_fault};
+ghost use Rattle.c_tree.specs.Breach.{least_of, nothing_found};
+ghost use Rattle.c_tree.specs.Scope.{empty_scope};
+ghost use Rattle.c_tree.specs.Syntax.{Part};
+ghost use Rattle.c_tree.specs.View.{part, parts};
+ghost use Rattle.c_types.specs.Env.{scope_of};
+ghost use Rattle.c_check.specs.Defined.{Defines};
+ghost use Rattle.c_check.specs.Fault.{IsFault};
+
+use crate::declarator::check_declarators;
+use crate::defined::{Defined, defined_by};
+use crate::edge::edges_of;
+use crate::fault::{CheckFault, CheckKind, fault_of};
+use crate::function::check_function;
+use crate::main_function::has_main;
+use crate::region::check_edges;
+use c_tree::{Breach, Checked, Item, Least, OutOfMemory, Place, Ranking, Tree};
+use c_types::{Env, none_found};
+use std::alloc::Global;
+
+/// Notes what an item breaks, whose names are then in scope, by what the whole text defines and what it did before the item.
+fn check_item(
+    alloc: Global,
+    item: &Item,
+    whole: &Defined,
+    before: &Defined,
+    env: &mut Env,
+    least: &mut Least,
+) -> Result<(), OutOfMemory>
+    ensures scope { (all : List Part) → Defines whole.now all → OnOk result (scope_of env.new ≡ behind_part all (part item.now) (scope_of env.old)) }
+    ensures least { (all ps : List Part) → Defines whole.now all → Defines before.now ps → OnOk result (least.new ≡ least_of least.old (part_breaches all ps (scope_of env.old) (part item.now))) }
+{
+    match item {
+        Item::Vars(_, vars) => check_declarators(alloc, true, vars, env, least),
+        Item::Fun(f) => {
+            let is_defined = whole.has(&f.name);
+            let was_defined = before.has(&f.name);
+            check_function(alloc, f, is_defined, was_defined, env, least)
+        }
+    }
+}
+
+/// Notes what the items of a text break.
+#[tactic(auto, using(c_tree::proofs::LeastBreach::append_rules))]
+fn check_items(alloc: Global, items: &[Item], least: &mut Least) -> Result<(), OutOfMemory>
+    ensures { OnOk result (least.new ≡ least_of least.old (parts_breaches (map part items.now) [] empty_scope (map part items.now))) }
+{
+    let whole = defined_by(alloc, items)?;
+    let mut before = Defined::new(alloc);
+    let mut env = Env::new(alloc)?;
+    for item in items {
+        check_item(alloc, item, &whole, &before, &mut env, least)?;
+        before.pass(item)?;
+    }
+    Ok(())
+}
+
+/// The least breach of a text, but for a `main` that is missing.
+#[tactic(auto, using(c_tree::proofs::LeastBreach::append_rules))]
+fn least_breach(alloc: Global, tree: &Tree) -> Result<Least, OutOfMemory>
+    ensures { IfOk result (λ least. least ≡ least_of (nothing_found Ranking.ForChecks) (text_breaches (parts tree.now))) }
+{
+    let mut least = none_found(Ranking::ForChecks);
+    check_items(alloc, &tree.items, &mut least)?;
+    let edges = edges_of(alloc, &tree.items)?;
+    check_edges(alloc, &edges, &mut least)?;
+    Ok(least)
+}
+
+/// The tree as an accepted one, or why it isn't, by its least breach.
+fn finish(tree: Tree, found: Option<Breach>) -> Result<Checked, CheckFault>
+    requires { found ≡ (least_of (nothing_found Ranking.ForChecks) (text_breaches (parts tree))).found }
+    ensures { MatchResult result (λ checked. checked.tree ≡ tree) (λ fault. IsFault fault (text_fault (parts tree))) }
+{
+    if let Some(breach) = found {
+        return Err(fault_of(breach));
+    }
+    if !has_main(&tree.items) {
+        let start = Place { line: 1, column: 1 };
+        return Err(CheckFault::Breach(CheckKind::NoMain, start));
+    }
+    Ok(Checked::of(tree))
+}
+
+/// The tree as one that breaks no rule of the language, or its fault.
+pub fn check(alloc: Global, tree: Tree) -> Result<Checked, CheckFault>
+    ensures { MatchResult result (λ checked. checked.tree ≡ tree) (λ fault. IsFault fault (text_fault (parts tree))) }
+{
+    match least_breach(alloc, &tree) {
+        Err(_refused) => Err(CheckFault::OutOfMemory),
+        Ok(least) => finish(tree, least.found),
+    }
+}

@@ -1,0 +1,62 @@
+//! The types that declarators declare (C11 6.7.6).
+
+ghost use Rattle.std.specs.Prelude.{◌≡◌, IfOk};
+ghost use Rattle.c_tree.specs.Constant.{value_of};
+ghost use Rattle.c_tree.specs.Declarators.{pointers, count_of, sized, pointer_where};
+ghost use Rattle.c_tree.specs.View.{expression, expressions, shape};
+
+use c_tree::{CType, Expr, OutOfMemory, Ranking};
+use c_types::{evaluate, none_found};
+use std::alloc::Global;
+
+fn point(alloc: Global, to: CType) -> Result<CType, OutOfMemory>
+    ensures { IfOk result (λ ty. shape ty ≡ pointers 1 (shape to)) }
+{
+    Ok(CType::Pointer(Box::new(alloc, to)?))
+}
+
+/// A type with stars before it.
+pub(crate) fn pointed(alloc: Global, base: &CType, stars: u32) -> Result<CType, OutOfMemory>
+    ensures { IfOk result (λ ty. shape ty ≡ pointers stars (shape base.now)) }
+{
+    let mut ty = base.again(alloc)?;
+    for _star in 0..stars {
+        ty = point(alloc, ty)?;
+    }
+    Ok(ty)
+}
+
+/// A pointer to a type, where a parameter is written as an array.
+pub(crate) fn pointer_where(alloc: Global, array: bool, ty: CType) -> Result<CType, OutOfMemory>
+    ensures { IfOk result (λ pointer. shape pointer ≡ pointer_where array (shape ty)) }
+{
+    if array { point(alloc, ty) } else { Ok(ty) }
+}
+
+/// The value of a constant, where it has one.
+pub(crate) fn value_of(constant: &Expr) -> Option<u32>
+    ensures { result ≡ value_of (expression constant.now) }
+{
+    let mut unheeded = none_found(Ranking::ForChecks);
+    evaluate(constant, false, None, &mut unheeded).value
+}
+
+/// The number of elements that a size gives: 0 where it is no constant.
+fn count(size: &Expr) -> u32
+    ensures { result ≡ count_of (value_of (expression size.now)) }
+{
+    value_of(size).unwrap_or(0)
+}
+
+/// Arrays of a type, the outermost size first.
+pub(crate) fn sized(alloc: Global, element: CType, sizes: &[Expr]) -> Result<CType, OutOfMemory>
+    ensures { IfOk result (λ ty. shape ty ≡ sized (expressions sizes.now) (shape element)) }
+{
+    let mut ty = element;
+    let mut left = sizes.len();
+    while 0 < left {
+        left -= 1;
+        ty = CType::Array(Box::new(alloc, ty)?, count(&sizes[left]));
+    }
+    Ok(ty)
+}

@@ -1,0 +1,7 @@
+pub mod ErasedLayout
+pub mod Extents
+pub mod Fitting
+pub mod Forks
+pub mod Narrow
+pub mod Nearness
+pub mod Placing

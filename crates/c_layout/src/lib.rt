@@ -1,0 +1,19 @@
+//! Where the objects of a text stand.
+#![tactic(auto)]
+
+mod fault;
+mod frame;
+mod globals;
+mod law;
+mod layout;
+mod limits;
+mod next;
+mod sizes;
+mod slots;
+#[cfg(test)]
+mod tests;
+
+pub use fault::LayoutFault;
+pub use frame::Frame;
+pub use law::erased_text_has_the_same_layout;
+pub use layout::{Layout, lay_out};

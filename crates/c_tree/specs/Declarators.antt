@@ -1,0 +1,111 @@
+-- Declarators: the types that they declare, and the rules that they break (C11 6.7.6, 6.7.9).
+use Rattle.std.specs.Prelude.{ℕ, zero, suc, ◌==◌, Bool, true, false, not, ◌&&◌, ◌||◌, List, [], ◌∷◌, ◌++◌, Option, Some, None, is_some, nat_le, if◌then◌else◌}
+use Rattle.c_tree.specs.declared.breach.Breach.{Breach}
+use Rattle.c_tree.specs.declared.breach.Broken.TheVariants.{Twice, Mismatch}
+use Rattle.c_tree.specs.declared.place.Place.{Place}
+use Rattle.c_tree.specs.Syntax.{Shape, PointerTo, ArrayOf, Expression, Expressions, NoMore, Next, Initialiser, OneValue, ManyValues, Declarator, Parameter}
+use Rattle.c_tree.specs.Scope.{ObjectOf, Scope, declared}
+use Rattle.c_tree.specs.Breach.{breach, unless}
+use Rattle.c_tree.specs.Shapes.{is_integer, is_pointer, is_unsigned}
+use Rattle.c_tree.specs.Rules.{is_nought, store_rule}
+use Rattle.c_tree.specs.Typing.{type_at}
+use Rattle.c_tree.specs.Breaches.{breaches, breaches_in, possible_one}
+use Rattle.c_tree.specs.Constant.{constant_shape, constant_breaches, value_of}
+
+abbrev pub pointers : ℕ → Shape → Shape
+pointers zero t = t
+pointers (suc stars) t = PointerTo (pointers stars t)
+
+-- a size that is no constant is a breach that stands before each use of the name; it counts as 0
+abbrev pub count_of : Option ℕ → ℕ
+count_of (Some n) = n
+count_of None = 0
+
+-- arrays of a type, the outermost size first
+abbrev pub sized : Expressions → Shape → Shape
+sized NoMore t = t
+sized (Next size sizes) t = ArrayOf (sized sizes t) (count_of (value_of size))
+
+-- the type of an array's innermost elements, or of what isn't an array
+abbrev pub element_shape : Declarator → Shape
+element_shape d = pointers d.stars d.base
+
+-- the type that a declarator declares
+abbrev pub declared_shape : Declarator → Shape
+declared_shape d = sized d.sizes (element_shape d)
+
+-- a parameter `[]` is a pointer (6.7.6.3)
+abbrev pub pointer_where : Bool → Shape → Shape
+pointer_where array t = if array then PointerTo t else t
+
+abbrev pub parameter_shape : Parameter → Shape
+parameter_shape p = pointer_where p.array (pointers p.stars p.base)
+
+abbrev pub with_declarator : Declarator → Scope → Scope
+with_declarator d scope = declared d.name (ObjectOf (declared_shape d)) scope
+
+abbrev pub with_declarators : List Declarator → Scope → Scope
+with_declarators [] scope = scope
+with_declarators (d ∷ ds) scope = with_declarators ds (with_declarator d scope)
+
+-- a size is at least 1, read with the sign of its type
+abbrev pub is_word_below_one : Bool → ℕ → Bool
+is_word_below_one unsigned n = (n == 0) || (not unsigned && nat_le 2147483648 n)
+
+abbrev pub is_below_one : Bool → Option ℕ → Bool
+is_below_one unsigned None = false
+is_below_one unsigned (Some n) = is_word_below_one unsigned n
+
+abbrev pub fit_sizes : Expressions → Bool
+fit_sizes NoMore = true
+fit_sizes (Next size sizes) = not (is_below_one (is_unsigned (constant_shape size)) (value_of size)) && fit_sizes sizes
+
+abbrev pub constants_breaches : Scope → Expressions → List Breach
+constants_breaches scope NoMore = []
+constants_breaches scope (Next e rest) = constant_breaches (Some scope) true e ++ constants_breaches scope rest
+
+-- a global takes a constant: an integer any, a pointer the literal 0 (6.7.9)
+abbrev pub takes_constant : Shape → Bool → Bool
+takes_constant t nought = is_integer t || (is_pointer t && nought)
+
+abbrev pub are_at_most : ℕ → Expressions → Bool
+are_at_most n NoMore = true
+are_at_most zero (Next e rest) = false
+are_at_most (suc n) (Next e rest) = are_at_most n rest
+
+abbrev pub are_within : Option ℕ → Expressions → Bool
+are_within None values = true
+are_within (Some n) values = are_at_most n values
+
+-- a list in braces is for an array of integers in one dimension, with at most as many items as elements
+abbrev pub takes_list : Shape → Expressions → Expressions → Bool
+takes_list t (Next size NoMore) values = is_integer t && are_within (value_of size) values
+takes_list t NoMore values = false
+takes_list t (Next size (Next other sizes)) values = false
+
+-- what a global is initialised with
+abbrev pub global_init_breaches : Scope → Declarator → Option Initialiser → List Breach
+global_init_breaches scope d None = []
+global_init_breaches scope d (Some (OneValue e)) = constant_breaches (Some scope) true e ++ unless (takes_constant (declared_shape d) (is_nought e)) Mismatch d.place
+global_init_breaches scope d (Some (ManyValues values)) = constants_breaches scope values ++ unless (takes_list (element_shape d) d.sizes values) Mismatch d.place
+
+-- what a local is initialised with, as by an assignment
+abbrev pub local_init_breaches : Scope → Declarator → Option Initialiser → List Breach
+local_init_breaches scope d None = []
+local_init_breaches scope d (Some (OneValue e)) = breaches scope true e ++ unless (possible_one (store_rule None (is_nought e) (declared_shape d)) (type_at scope e)) Mismatch d.place
+local_init_breaches scope d (Some (ManyValues values)) = breaches_in scope values ++ breach Mismatch d.place
+
+abbrev pub init_breaches : Bool → Scope → Declarator → List Breach
+init_breaches global scope d = if global then global_init_breaches scope d d.init else local_init_breaches scope d d.init
+
+-- A declarator's name is in scope in its initialiser, and not in its sizes (6.2.1).
+abbrev pub declarator_breaches : Bool → Scope → Declarator → List Breach
+declarator_breaches global scope d =
+    constants_breaches scope d.sizes
+    ++ (unless (not (is_some (scope.inner d.name))) Twice d.place
+    ++ (unless (fit_sizes d.sizes) Mismatch d.place
+    ++ init_breaches global (with_declarator d scope) d))
+
+abbrev pub declarators_breaches : Bool → Scope → List Declarator → List Breach
+declarators_breaches global scope [] = []
+declarators_breaches global scope (d ∷ ds) = declarator_breaches global scope d ++ declarators_breaches global (with_declarator d scope) ds

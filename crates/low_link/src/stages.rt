@@ -1,0 +1,42 @@
+//! From a text to a checked tree and its layout.
+
+ghost use Rattle.std.specs.Prelude.{◌≡◌, ◌≤◌, IfOk, IfErr, MatchResult, length};
+ghost use Rattle.c_tree.specs.View.{parts};
+ghost use Rattle.low_link.specs.Front.{Spells, IsAccepted, Refuses, Fronted};
+
+use crate::Refused;
+use c_check::check;
+use c_decl::parse;
+use c_layout::{Layout, lay_out};
+use c_token::tokens;
+use c_tree::{Checked, Tree};
+use std::alloc::Global;
+
+/// The tree of a text.
+fn read(alloc: Global, text: &[u8]) -> Result<Tree, Refused>
+    requires { length text.now ≤ 1048576 }
+    ensures { MatchResult result (λ tree. Spells text.now (parts tree)) (Refuses text.now) }
+{
+    let tokens = tokens(alloc, text)?;
+    Ok(parse(alloc, &tokens)?)
+}
+
+/// The tree of a text, as one that is accepted.
+fn accept(alloc: Global, text: &[u8]) -> Result<Checked, Refused>
+    requires { length text.now ≤ 1048576 }
+    ensures { MatchResult result (λ checked. IsAccepted text.now (parts checked.tree)) (Refuses text.now) }
+{
+    let tree = read(alloc, text)?;
+    Ok(check(alloc, tree)?)
+}
+
+/// The checked tree of a text of at most 1,048,576 bytes, and its layout; or the first fault: of its tokens,
+/// of the grammar, of the rules of the language, of the sizes.
+pub fn front(alloc: Global, text: &[u8]) -> Result<(Checked, Layout), Refused>
+    requires { length text.now ≤ 1048576 }
+    ensures { Fronted text.now result }
+{
+    let checked = accept(alloc, text)?;
+    let layout = lay_out(alloc, &checked)?;
+    Ok((checked, layout))
+}
