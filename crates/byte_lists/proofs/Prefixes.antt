@@ -3,9 +3,6 @@ use Rattle.std.proofs.Common.{◌≡◌, ℕ, List, [], ◌++◌, take, drop, re
 use Rattle.std.proofs.lemmas.List.{take-append-drop}
 use Rattle.byte_lists.specs.Prefix.{IsPrefix}
 
-pub IsPrefix-nil : (xs : List ℕ) → IsPrefix [] xs
-IsPrefix-nil xs = (xs, refl)
-
 pub IsPrefix-refl : (xs : List ℕ) → IsPrefix xs xs
 IsPrefix-refl xs = ([], sym (append-nil xs))
 
