@@ -23,7 +23,10 @@ pub use breach::{Breach, Broken, Least, Ranking};
 pub use checked::Checked;
 pub use ctype::CType;
 pub use edge::Edge;
-pub use law::{erased_tree_is_accepted, erased_text_has_no_marker, erasing_twice_is_erasing_once, unmarked_text_stays};
+pub use law::{
+    erased_text_has_no_marker, erased_tree_is_accepted, erasing_twice_is_erasing_once,
+    unmarked_text_stays,
+};
 pub use memory::OutOfMemory;
 pub use name::Name;
 pub use operator::{Binary, Keep, Step, Unary};
