@@ -3,6 +3,10 @@ mod checks;
 use super::*;
 use crate::report::report_status;
 use bop_ends::{MemShelf, MemSink};
+use c_check::{CheckFault, CheckKind};
+use c_layout::LayoutFault;
+use c_tree::Place;
+use low_link::Refused;
 use std::alloc::Global;
 use std::collections::BTreeMap;
 use std::test::Fail;
@@ -213,38 +217,34 @@ fn a_failed_report_is_a_fault_of_an_answer_alone(rt: HostRuntime) -> Result<(), 
 #[test]
 fn each_status_has_its_code_and_its_line(rt: HostRuntime) -> Result<(), Fail> {
     let alloc = rt.alloc();
-    let rows: [(Status, u8, &str, Status); 9] = [
-        (Status::Done(0), 0, "done 0", Status::ReportFault),
-        (Status::Done(-1), 0, "done -1", Status::ReportFault),
-        (
-            Status::Done(2147483647),
-            0,
-            "done 2147483647",
-            Status::ReportFault,
-        ),
-        (
-            Status::Done(-2147483648),
-            0,
-            "done -2147483648",
-            Status::ReportFault,
-        ),
-        (Status::BadWords, 2, "bad-words", Status::BadWords),
-        (Status::LoadFault, 3, "load-fault", Status::LoadFault),
-        (Status::WriteFault, 14, "write-fault", Status::WriteFault),
-        (
-            Status::OutOfMemory,
-            18,
-            "out-of-memory",
-            Status::OutOfMemory,
-        ),
-        (
-            Status::NotYetBuilt,
-            19,
-            "not-yet-built",
-            Status::NotYetBuilt,
-        ),
+    let place = Place {
+        line: 2,
+        column: 13,
+    };
+    let breach = CheckFault::Breach(CheckKind::Marker, place);
+    let rejected = Status::Rejected(Refused::Check(breach));
+    let too_large = Status::Rejected(Refused::Layout(LayoutFault::DataTooLarge));
+    let rows: [(Status, u8, &str, bool); 13] = [
+        (Status::Done(0), 0, "done 0", true),
+        (Status::Done(-1), 0, "done -1", true),
+        (Status::Done(2147483647), 0, "done 2147483647", true),
+        (Status::Done(-2147483648), 0, "done -2147483648", true),
+        (Status::Fine, 0, "fine", true),
+        (Status::BadWords, 2, "bad-words", false),
+        (Status::LoadFault, 3, "load-fault", false),
+        (Status::ProgramTooLong, 4, "program-too-long", false),
+        (rejected, 5, "rejected marker 2 13", false),
+        (too_large, 5, "rejected data-too-large", false),
+        (Status::WriteFault, 14, "write-fault", false),
+        (Status::OutOfMemory, 18, "out-of-memory", false),
+        (Status::NotYetBuilt, 19, "not-yet-built", false),
     ];
-    for (status, code, said, unreported) in rows {
+    for (status, code, said, is_replaced) in rows {
+        let unreported = if is_replaced {
+            Status::ReportFault
+        } else {
+            status
+        };
         let line = format!(in alloc; "status {said}\n")?;
         let mut report = sink_with(alloc, &[])?;
         assert_eq!(rt; status.code(), code, "{said}");
