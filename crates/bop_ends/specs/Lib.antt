@@ -2,6 +2,8 @@ pub mod Ends
 pub mod Files
 pub mod MemShelf
 pub mod MemSink
+pub mod MemSource
 pub mod Plan
 pub mod RealShelf
 pub mod RealSink
+pub mod RealSource
