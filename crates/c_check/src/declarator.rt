@@ -8,9 +8,8 @@ ghost use Rattle.c_types.specs.Env.{scope_of};
 
 use crate::initialiser::check_init;
 use crate::sizes::check_sizes;
-use crate::types::{pointed, sized};
 use c_tree::{Broken, Least, OutOfMemory, Var};
-use c_types::{Env, note};
+use c_types::{Env, note, pointed, sized};
 use std::alloc::Global;
 
 /// Notes what a declarator breaks, whose name is then in scope.

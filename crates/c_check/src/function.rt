@@ -11,30 +11,12 @@ ghost use Rattle.c_types.specs.Env.{scope_of, known};
 ghost use Rattle.c_check.specs.Functions.{declared_function, heading_breaches, routine_breaches};
 
 use crate::statement::check_body;
-use crate::types::{pointed, pointer_where};
 use c_tree::{Broken, CType, Fun, Least, Name, OutOfMemory, Param, Place};
-use c_types::{Env, Known, note, same_type};
+use c_types::{Env, Known, note, parameter_type, parameter_types, pointed, same_type};
 use std::alloc::Global;
 
 /// The most parameters that a function can have.
 const MOST_PARAMETERS: usize = 8;
-
-fn parameter_type(alloc: Global, p: &Param) -> Result<CType, OutOfMemory>
-    ensures { IfOk result (λ ty. shape ty ≡ parameter_shape (parameter p.now)) }
-{
-    let ty = pointed(alloc, &p.base, p.stars)?;
-    pointer_where(alloc, p.array, ty)
-}
-
-fn types_of(alloc: Global, params: &[Param]) -> Result<Vec<CType>, OutOfMemory>
-    ensures { IfOk result (λ types. map shape types.items ≡ parameter_shapes (map parameter params.now)) }
-{
-    let mut types = Vec::new(alloc);
-    for p in params {
-        types.push(parameter_type(alloc, p)?)?;
-    }
-    Ok(types)
-}
 
 fn same_types(a: &[CType], b: &[CType]) -> bool
     ensures { result ≡ same_all (map shape a.now) (map shape b.now) }
@@ -84,7 +66,7 @@ fn check_heading(
     ensures scope { OnOk result (scope_of env.new ≡ declared_function is_defined (function f.now) (scope_of env.old)) }
     ensures least { OnOk result (least.new ≡ least_of least.old (heading_breaches (scope_of env.old) (function f.now))) }
 {
-    let types = types_of(alloc, &f.params)?;
+    let types = parameter_types(alloc, &f.params)?;
     check_again(env.find_here(&f.name), gives, &types, f.place, least);
     let few = f.params.len() <= MOST_PARAMETERS;
     note(least, few, Broken::TooManyParameters, f.place);

@@ -11,9 +11,8 @@ ghost use Rattle.c_tree.specs.Typing.{type_at};
 ghost use Rattle.c_tree.specs.View.{expression, expressions, initialiser, declarator, shape};
 ghost use Rattle.c_types.specs.Env.{scope_of};
 
-use crate::types::value_of;
 use c_tree::{Broken, CType, Expr, Init, Least, Place, Var};
-use c_types::{Env, PartRule, Seen, evaluate, is_nought, note, walk};
+use c_types::{Env, PartRule, Seen, evaluate, is_nought, note, value_of, walk};
 
 /// A global takes a constant.
 fn takes_constant(ty: &CType, nought: bool) -> bool

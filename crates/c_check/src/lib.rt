@@ -15,7 +15,6 @@ mod statement;
 #[cfg(test)]
 mod tests;
 mod text;
-mod types;
 
 pub use fault::{CheckFault, CheckKind};
 pub use text::check;

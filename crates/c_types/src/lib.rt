@@ -3,6 +3,7 @@
 
 mod call;
 mod constants;
+mod declarators;
 mod env;
 mod fault;
 mod integers;
@@ -17,7 +18,9 @@ mod types;
 mod typing;
 mod words;
 
+pub use call::{Parameters, Passed, Target};
 pub use constants::{Evaluation, evaluate};
+pub use declarators::{parameter_type, parameter_types, pointed, sized, value_of};
 pub use env::{Env, Known};
 pub use fault::TypeFault;
 pub use integers::Integer;
@@ -25,6 +28,7 @@ pub use law::{a_rule_is_broken_where_no_types_would_meet_it, the_type_is_what_th
 pub use least::{keep, none_found, note};
 pub use rules::{PartRule, Rule};
 pub use seen::{Base, Seen, is_void, same_type};
+pub use spine::{Along, LIMIT, Lowest, descend, follow, operand};
 pub use types::{constant, promote, type_of};
-pub use typing::{is_nought, is_place, may_test, walk};
+pub use typing::{address_of, is_nought, is_place, is_test, may_test, walk};
 pub use words::{convert, infix_word, prefix_word};

@@ -135,7 +135,7 @@ impl<'a> Seen<'a> {
         }
     }
 
-    fn is_unsigned(self) -> bool
+    pub fn is_unsigned(self) -> bool
         ensures { result ≡ is_unsigned (seen self.entry) }
     {
         matches!(

@@ -11,11 +11,11 @@ ghost use Rattle.c_types.specs.Spine.{first_operand, constant_operand, operand, 
 use c_tree::{CType, Expr, ExprKind, Unary};
 
 /// How many operands are followed before a walk begins anew.
-pub(crate) const LIMIT: u32 = 64;
+pub const LIMIT: u32 = 64;
 
 /// Which operands are followed: all first ones, or those of the forms of a constant.
 #[derive(Clone, Copy, Debug)]
-pub(crate) enum Along {
+pub enum Along {
     Operands,
     Constants,
 }
@@ -79,7 +79,7 @@ fn constant_operand(e: &Expr) -> Option<&Expr>
 }
 
 /// The first operand, where it is followed.
-pub(crate) fn operand(along: Along, e: &Expr) -> Option<&Expr>
+pub fn operand(along: Along, e: &Expr) -> Option<&Expr>
     ensures value { MatchOption (option_copied result) (operand along (expression e.now) ≡ None) (λ a. operand along (expression e.now) ≡ Some (expression a)) }
     ensures smaller { MatchOption (option_copied result) (Unit {0}) (λ a. size-Expr a < size-Expr e.now) }
 {
@@ -91,7 +91,7 @@ pub(crate) fn operand(along: Along, e: &Expr) -> Option<&Expr>
 
 /// The operand so many steps further down, or the last one.
 #[tactic(auto, using(crate::proofs::Descent::steps))]
-pub(crate) fn descend<'a>(along: Along, e: &'a Expr, count: u32) -> &'a Expr
+pub fn descend<'a>(along: Along, e: &'a Expr, count: u32) -> &'a Expr
     ensures reaches { expression result.now ≡ down along count (expression e.now) }
     ensures small { size-Expr result.now ≤ size-Expr e.now }
 {
@@ -106,14 +106,14 @@ pub(crate) fn descend<'a>(along: Along, e: &'a Expr, count: u32) -> &'a Expr
 
 /// An operand, and how many steps it is further down.
 #[derive(Clone, Copy)]
-pub(crate) struct Lowest<'a> {
-    pub(crate) end: &'a Expr,
-    pub(crate) count: u32,
+pub struct Lowest<'a> {
+    pub end: &'a Expr,
+    pub count: u32,
 }
 
 /// The last operand, or the one at the limit.
 #[tactic(auto, using(crate::proofs::Descent::steps))]
-pub(crate) fn follow<'a>(along: Along, e: &'a Expr) -> Lowest<'a>
+pub fn follow<'a>(along: Along, e: &'a Expr) -> Lowest<'a>
     ensures reaches { expression result.end.now ≡ down along result.count (expression e.now) }
     ensures ends { result.count < LIMIT → operand along (expression result.end.now) ≡ None }
     ensures small { size-Expr result.end.now ≤ size-Expr e.now }

@@ -81,8 +81,8 @@ fn name<'a>(found: Option<&'a Known>, place: Place, least: &mut Least) -> Option
     }
 }
 
-/// The address of a place.
-fn address<'a>(place: bool, ty: Option<Seen<'a>>) -> Option<Seen<'a>>
+/// The type of the address of a place.
+pub fn address_of<'a>(place: bool, ty: Option<Seen<'a>>) -> Option<Seen<'a>>
     requires { place ≡ true → is_flat ty ≡ true }
     ensures { seen_some result ≡ address_type place (seen_some ty.entry) }
 {
@@ -125,7 +125,7 @@ fn prefix<'a>(
     match op {
         Unary::Address => {
             note(least, of_place, Broken::NotAPlace, at);
-            address(of_place, ty)
+            address_of(of_place, ty)
         }
         Unary::Plus => part(PartRule::Prefix(Unary::Plus), ty, at, least),
         Unary::Minus => part(PartRule::Prefix(Unary::Minus), ty, at, least),
@@ -207,7 +207,8 @@ pub fn may_test(test: Option<Seen>) -> bool
     }
 }
 
-fn is_test(test: Option<Seen>) -> bool
+/// Whether a value is a condition.
+pub fn is_test(test: Option<Seen>) -> bool
     ensures { result ≡ is_test (seen_some test.entry) }
 {
     match test {

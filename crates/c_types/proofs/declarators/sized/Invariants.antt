@@ -1,7 +1,7 @@
 use Rattle.std.proofs.Common.{◌≡◌, ◌≤◌, drop, length}
 use Rattle.c_tree.specs.Declarators.{sized}
 use Rattle.c_tree.specs.View.{expressions, shape}
-use Rattle.c_check.proofs.types.sized.Given as goal
+use Rattle.c_types.proofs.declarators.sized.Given as goal
 
 abbrev pub invariant-loop-left : goal.invariant-loop-left
 invariant-loop-left l = record {

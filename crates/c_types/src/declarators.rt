@@ -1,12 +1,14 @@
 //! The types that declarators declare (C11 6.7.6).
 
-ghost use Rattle.std.specs.Prelude.{◌≡◌, IfOk};
+ghost use Rattle.std.specs.Prelude.{◌≡◌, IfOk, map};
+ghost use Rattle.c_tree.specs.Accepted.{parameter_shapes};
 ghost use Rattle.c_tree.specs.Constant.{value_of};
-ghost use Rattle.c_tree.specs.Declarators.{pointers, count_of, sized, pointer_where};
-ghost use Rattle.c_tree.specs.View.{expression, expressions, shape};
+ghost use Rattle.c_tree.specs.Declarators.{pointers, count_of, sized, pointer_where, parameter_shape};
+ghost use Rattle.c_tree.specs.View.{expression, expressions, parameter, shape};
 
-use c_tree::{CType, Expr, OutOfMemory, Ranking};
-use c_types::{evaluate, none_found};
+use crate::constants::evaluate;
+use crate::least::none_found;
+use c_tree::{CType, Expr, OutOfMemory, Param, Ranking};
 use std::alloc::Global;
 
 fn point(alloc: Global, to: CType) -> Result<CType, OutOfMemory>
@@ -16,7 +18,7 @@ fn point(alloc: Global, to: CType) -> Result<CType, OutOfMemory>
 }
 
 /// A type with stars before it.
-pub(crate) fn pointed(alloc: Global, base: &CType, stars: u32) -> Result<CType, OutOfMemory>
+pub fn pointed(alloc: Global, base: &CType, stars: u32) -> Result<CType, OutOfMemory>
     ensures { IfOk result (λ ty. shape ty ≡ pointers stars (shape base.now)) }
 {
     let mut ty = base.again(alloc)?;
@@ -27,14 +29,33 @@ pub(crate) fn pointed(alloc: Global, base: &CType, stars: u32) -> Result<CType, 
 }
 
 /// A pointer to a type, where a parameter is written as an array.
-pub(crate) fn pointer_where(alloc: Global, array: bool, ty: CType) -> Result<CType, OutOfMemory>
+fn pointer_where(alloc: Global, array: bool, ty: CType) -> Result<CType, OutOfMemory>
     ensures { IfOk result (λ pointer. shape pointer ≡ pointer_where array (shape ty)) }
 {
     if array { point(alloc, ty) } else { Ok(ty) }
 }
 
+/// A parameter's type: `[]` is a pointer (C11 6.7.6.3).
+pub fn parameter_type(alloc: Global, p: &Param) -> Result<CType, OutOfMemory>
+    ensures { IfOk result (λ ty. shape ty ≡ parameter_shape (parameter p.now)) }
+{
+    let ty = pointed(alloc, &p.base, p.stars)?;
+    pointer_where(alloc, p.array, ty)
+}
+
+/// The types of some parameters.
+pub fn parameter_types(alloc: Global, params: &[Param]) -> Result<Vec<CType>, OutOfMemory>
+    ensures { IfOk result (λ types. map shape types.items ≡ parameter_shapes (map parameter params.now)) }
+{
+    let mut types = Vec::new(alloc);
+    for p in params {
+        types.push(parameter_type(alloc, p)?)?;
+    }
+    Ok(types)
+}
+
 /// The value of a constant, where it has one.
-pub(crate) fn value_of(constant: &Expr) -> Option<u32>
+pub fn value_of(constant: &Expr) -> Option<u32>
     ensures { result ≡ value_of (expression constant.now) }
 {
     let mut unheeded = none_found(Ranking::ForChecks);
@@ -49,7 +70,7 @@ fn count(size: &Expr) -> u32
 }
 
 /// Arrays of a type, the outermost size first.
-pub(crate) fn sized(alloc: Global, element: CType, sizes: &[Expr]) -> Result<CType, OutOfMemory>
+pub fn sized(alloc: Global, element: CType, sizes: &[Expr]) -> Result<CType, OutOfMemory>
     ensures { IfOk result (λ ty. shape ty ≡ sized (expressions sizes.now) (shape element)) }
 {
     let mut ty = element;
