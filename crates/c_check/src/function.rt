@@ -45,8 +45,14 @@ fn check_again(
     match found {
         None => {}
         Some(Known::Object(_)) => note(least, false, Broken::Twice, place),
-        Some(Known::Function(result_type, params, _)) => {
-            let same = same_type(result_type, gives) && same_types(params, types);
+        Some(
+            Known::Function {
+                gives: known,
+                params,
+                ..
+            },
+        ) => {
+            let same = same_type(known, gives) && same_types(params, types);
             note(least, same, Broken::Mismatch, place);
         }
     }

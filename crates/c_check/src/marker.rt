@@ -37,7 +37,7 @@ fn check_named(role: Role, found: Option<&Known>, name_at: Place, at: Place, lea
     match found {
         None => note(least, false, Broken::Unknown, name_at),
         Some(Known::Object(ty)) => note(least, role.can_be(ty), Broken::Marker, at),
-        Some(Known::Function(_, _, _)) => note(least, false, Broken::Marker, at),
+        Some(Known::Function { .. }) => note(least, false, Broken::Marker, at),
     }
 }
 

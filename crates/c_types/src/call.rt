@@ -12,7 +12,8 @@ ghost use Rattle.c_types.specs.Env.{scope_of, known};
 ghost use Rattle.c_types.specs.Seen.{seen, seen_some};
 ghost use Rattle.c_types.specs.Call.{target, parameters};
 
-use crate::env::{Env, Known};
+use crate::block::Known;
+use crate::env::Env;
 use crate::least::note;
 use crate::rules::PartRule;
 use crate::seen::{Base, Seen, is_void};
@@ -50,9 +51,9 @@ impl<'a> Target<'a> {
         ensures { parameters result ≡ parameters_of (target self.entry) }
     {
         match self {
-            Target::Found(Some(Known::Function(_, types, _))) => Parameters::Listed(
-                types.as_slice(),
-            ),
+            Target::Found(Some(Known::Function { params, .. })) => {
+                Parameters::Listed(params.as_slice())
+            }
             Target::Found(_) => Parameters::Listed(&[]),
             Target::Getchar => Parameters::Listed(&[]),
             Target::Putchar => Parameters::OneInt,
@@ -198,12 +199,18 @@ fn call_known<'a>(
             note(least, false, Broken::Mismatch, at);
             None
         }
-        Some(Known::Function(result_type, _, is_defined)) => {
-            let void = is_void(result_type);
+        Some(
+            Known::Function {
+                gives,
+                is_defined,
+                ..
+            },
+        ) => {
+            let void = is_void(gives);
             note(least, *is_defined, Broken::Unknown, at);
             note_call(void && used, passed, at, least);
             if passed.typed && !void {
-                Some(Seen::of(result_type))
+                Some(Seen::of(gives))
             } else {
                 None
             }

@@ -1,54 +1,31 @@
 //! The names in scope.
 
-ghost use Rattle.std.specs.Prelude.{◌≡◌, [], ◌∷◌, ◌++◌, ◌<◌, Some, None, length, IfOk, OnOk, OnErr, option_map, is_some, map, true};
+ghost use Rattle.std.specs.Prelude.{◌≡◌, [], ◌∷◌, ◌++◌, ◌<◌, length, IfOk, OnOk, OnErr, option_map, is_some, map, true};
 ghost use Rattle.std.specs.Option.{option_copied};
-ghost use Rattle.c_tree.specs.Scope.{look, look_outer, entered, empty_scope, declared, ObjectOf, FunctionOf};
+ghost use Rattle.c_tree.specs.Scope.{look, entered, empty_scope, declared, ObjectOf, FunctionOf};
 ghost use Rattle.c_tree.specs.View.{shape};
-ghost use Rattle.c_types.specs.Env.{scope_of, known, frame_of, frames_of};
+ghost use Rattle.c_types.specs.Block.{known, frame_of, frames_of};
+ghost use Rattle.c_types.specs.Index.{IsIndexOf};
 
+use crate::block::{Block, Known};
+use crate::index::NameIndex;
 use c_tree::{CType, Name, OutOfMemory};
 use std::alloc::Global;
-use std::collections::BTreeMap;
 use std::mem;
 
-/// What a name stands for: an object of a type, or a function by its result, its parameters' types and whether the text defines it.
-#[derive(Debug, Drop)]
-pub enum Known {
-    Object(CType),
-    Function(CType, Vec<CType>, bool),
-}
-
-/// The names of a block, by their bytes.
-#[derive(Drop)]
-pub(crate) struct Block {
-    names: BTreeMap<Vec<u8>, Known>,
-}
-
-impl Block {
-    fn new(alloc: Global) -> Block
-        ensures { frame_of result ≡ empty_scope.inner }
-    {
-        Block {
-            names: BTreeMap::new(alloc),
-        }
-    }
-
-    fn find(&self, name: &Name) -> Option<&Known>
-        ensures { option_map known (option_copied result) ≡ frame_of self.now name.now }
-    {
-        self.names.get(name.get())
-    }
-}
-
-/// The names in scope: for each open block those that it declares.
+/// The names in scope: for each open block those that it declares, and an index by the blocks' numbers, where the outermost has 0 and `inner` the last.
 #[derive(Drop)]
 pub struct Env {
     alloc: Global,
     outer: Vec<Block>,
     inner: Block,
+    index: NameIndex,
+    ghost indexed: { IsIndexOf (frames_of outer.items ++ frame_of inner ∷ []) index },
 }
 
 impl Env {
+    ghost use Rattle.c_types.specs.Env.{scope_of};
+
     /// One block without names.
     pub fn new(alloc: Global) -> Result<Env, OutOfMemory>
         ensures { IfOk result (λ env. scope_of env ≡ empty_scope) }
@@ -57,6 +34,7 @@ impl Env {
             alloc,
             outer: Vec::new(alloc),
             inner: Block::new(alloc),
+            index: NameIndex::new(alloc),
         })
     }
 
@@ -75,12 +53,13 @@ impl Env {
         }
     }
 
-    /// Closes the innermost block, in the time that its names take.
+    /// Closes the innermost block, with a look-up for each of its names.
     pub fn leave(&mut self)
         requires { 0 < length (scope_of self.old).outer }
         ensures { (scope_of self.old).outer ≡ (scope_of self.new).outer ++ (scope_of self.new).inner ∷ [] }
     {
         if let Some(block) = self.outer.pop() {
+            self.index.close(&self.inner);
             self.inner = block;
         }
     }
@@ -89,9 +68,16 @@ impl Env {
         ensures declared { OnOk result (scope_of self.new ≡ declared name.now (known entry) (scope_of self.old)) }
         ensures refused { OnErr result (scope_of self.new ≡ scope_of self.old) }
     {
-        let bytes = Vec::from_slice(self.alloc, name.get())?;
-        self.inner.names.insert(bytes, entry)?;
-        Ok(())
+        if self.inner.insert(self.alloc, name, entry)?.is_some() {
+            return Ok(());
+        }
+        match self.index.push(name, self.outer.len()) {
+            Ok(()) => Ok(()),
+            Err(refused) => {
+                self.inner.remove(name);
+                Err(refused)
+            }
+        }
     }
 
     /// Declares an object in the innermost block.
@@ -112,7 +98,7 @@ impl Env {
         ensures declared { OnOk result (scope_of self.new ≡ declared name.now (FunctionOf (shape result_type) (map shape params.items) true) (scope_of self.old)) }
         ensures refused { OnErr result (scope_of self.new ≡ scope_of self.old) }
     {
-        self.bind(name, Known::Function(result_type, params, true))
+        self.declare_fun_of(name, result_type, params, true)
     }
 
     /// The same of a function that the text may declare and not define.
@@ -126,7 +112,12 @@ impl Env {
         ensures declared { OnOk result (scope_of self.new ≡ declared name.now (FunctionOf (shape result_type) (map shape params.items) is_defined) (scope_of self.old)) }
         ensures refused { OnErr result (scope_of self.new ≡ scope_of self.old) }
     {
-        self.bind(name, Known::Function(result_type, params, is_defined))
+        let entry = Known::Function {
+            gives: result_type,
+            params,
+            is_defined,
+        };
+        self.bind(name, entry)
     }
 
     /// What a name stands for in the innermost block.
@@ -143,26 +134,12 @@ impl Env {
         self.find_here(name).is_some()
     }
 
-    /// What a name stands for: the innermost block that declares it counts.
+    /// What a name stands for: the innermost block that declares it counts. The index gives its number, so no other block is searched.
     pub fn find(&self, name: &Name) -> Option<&Known>
         ensures { option_map known (option_copied result) ≡ look (scope_of self.now) name.now }
     {
-        match self.inner.find(name) {
-            Some(known) => Some(known),
-            None => find_outside(&self.outer, name),
-        }
+        let number = self.index.innermost(name)?;
+        let block = self.outer.get(number).unwrap_or(&self.inner);
+        block.find(name)
     }
-}
-
-/// What a name stands for outside the innermost block.
-fn find_outside<'a>(blocks: &'a [Block], name: &Name) -> Option<&'a Known>
-    ensures { option_map known (option_copied result) ≡ look_outer (frames_of blocks.now) name.now }
-{
-    let mut best = None;
-    for block in blocks {
-        if let Some(known) = block.find(name) {
-            best = Some(known);
-        }
-    }
-    best
 }

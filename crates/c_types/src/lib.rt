@@ -1,11 +1,13 @@
 //! Types of expressions, and constants.
 #![tactic(auto)]
 
+mod block;
 mod call;
 mod constants;
 mod declarators;
 mod env;
 mod fault;
+mod index;
 mod integers;
 mod law;
 mod least;
@@ -18,10 +20,11 @@ mod types;
 mod typing;
 mod words;
 
+pub use block::Known;
 pub use call::{Parameters, Passed, Target};
 pub use constants::{Evaluation, evaluate};
 pub use declarators::{parameter_type, parameter_types, pointed, sized, value_of};
-pub use env::{Env, Known};
+pub use env::Env;
 pub use fault::TypeFault;
 pub use integers::Integer;
 pub use law::{a_rule_is_broken_where_no_types_would_meet_it, the_type_is_what_the_rules_derive};

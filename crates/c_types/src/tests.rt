@@ -1,5 +1,6 @@
 //! Types, faults and constants by tables. Expressions are written operands first, and a word's number is its column.
 
+mod blocks;
 mod read;
 
 use crate::{Env, TypeFault, constant, convert, promote, type_of};

@@ -13,8 +13,9 @@ ghost use Rattle.c_types.specs.Seen.{seen_some, is_flat, part_rule, rule_of, is_
 ghost use Rattle.c_types.specs.Call.{parameters};
 ghost use Rattle.c_types.specs.Spine.{first_operand, below, down};
 
+use crate::block::Known;
 use crate::call::{Parameters, Passed, Target, call};
-use crate::env::{Env, Known};
+use crate::env::Env;
 use crate::least::note;
 use crate::rules::{PartRule, Rule, element};
 use crate::seen::{Base, Seen};
@@ -74,7 +75,7 @@ fn name<'a>(found: Option<&'a Known>, place: Place, least: &mut Least) -> Option
             None
         }
         Some(Known::Object(ty)) => Some(Seen::of(ty)),
-        Some(Known::Function(_, _, _)) => {
+        Some(Known::Function { .. }) => {
             note(least, false, Broken::Mismatch, place);
             None
         }

@@ -1,21 +1,52 @@
-use Rattle.std.proofs.Common.{◌≡◌, ℕ, Bool, true, false, cond, List, Option, Some, refl, ap, ◌∙◌, arith}
-use Rattle.std.specs.Prelude.{option_map, bytes_eq}
+use Rattle.std.proofs.Common.{◌≡◌, [], ◌∷◌, ◌++◌, ◌+◌, length, bytes_eq, arith, sym, ap, ◌∙◌}
 use Rattle.std.proofs.lemmas.Grind.{common_steps}
-use Rattle.c_tree.specs.Scope.{Frame, bound}
-use Rattle.c_types.specs.Env.{known, frame_of, frames_of}
-use Rattle.c_types.specs.declared.env.Known.{Known as Entry}
-use Rattle.c_types.proofs.Keys.{updates_bytes}
+use Rattle.c_tree.specs.Scope.{Frame}
+use Rattle.c_types.specs.Block.{known, frame_of, frames_of}
+use Rattle.c_types.specs.Index.{number_if, declaring}
+use Rattle.c_types.proofs.Declaring.{declared_again, declared_newly, taken_back}
+use Rattle.c_types.proofs.Frames.{had}
 use Rattle.c_types.proofs.env.Env.bind.Goals as goal
 
-known_if : (b : Bool) (e : Entry) (x : Option Entry) → option_map known (cond b (Some e) x) ≡ cond b (Some (known e)) (option_map known x)
-known_if true e x = refl
-known_if false e x = refl
+pub invariant_of-self-then-is_some : goal.invariant_of-self-then-is_some
+invariant_of-self-then-is_some c =
+    let old = c.args.self.now in
+    let inserted = c.in_ok-insert.ensures in
+    let here = had c.in_ok-insert.field-0 (frame_of old.inner c.args.name.now) _ inserted.before c.if-is_some.ensures in
+    record {
+      indexed = λ other.
+          old.indexed other
+          ∙ declared_again (frames_of old.outer.items) (frame_of old.inner) (frame_of c.insert.new.self) c.args.name.now (known c.args.entry) inserted.bound here other;
+    }
 
-pub returns-clause-declared : goal.returns-clause-declared
-returns-clause-declared c =
-    let u = c.in_ok-insert.ensures.updates in
-    let items : c.in_ok-bytes.bytes.items ≡ c.args.name.now = grind (arith, common_steps) in
-    let each = λ (n : List ℕ). ap (option_map known) (updates_bytes c.in_ok-bytes.bytes.items c.args.self.now.inner.names c.insert.new.self (Some c.args.entry) u n) ∙ known_if (bytes_eq c.in_ok-bytes.bytes.items n) c.args.entry _ in
-    let whole : frame_of (record { names = c.insert.new.self }) ≡ bound c.in_ok-bytes.bytes.items (known c.args.entry) (frame_of c.args.self.now.inner) = λ i n. each n i in
-    let named = whole ∙ ap (λ b. bound b (known c.args.entry) (frame_of c.args.self.now.inner)) items in
-    ap (λ (f : Frame). record { outer = frames_of c.args.self.now.outer.items; inner = f }) named
+pub invariant_of-self-in-Ok : goal.invariant_of-self-in-Ok
+invariant_of-self-in-Ok c =
+    let old = c.args.self.now in
+    let inserted = c.in_ok-insert.ensures in
+    let absent = had c.in_ok-insert.field-0 (frame_of old.inner c.args.name.now) _ inserted.before c.if-is_some.ensures in
+    let number : c.len.result ≡ 0 + length (frames_of old.outer.items) = grind (arith, common_steps) in
+    record {
+      indexed = λ other.
+          c.in-Ok.ensures.pushed other
+          ∙ (ap (λ ns. ns ++ number_if (bytes_eq c.args.name.now other) c.len.result) (old.indexed other)
+          ∙ (ap (λ n. declaring 0 (frames_of old.outer.items ++ frame_of old.inner ∷ []) other ++ number_if (bytes_eq c.args.name.now other) n) number
+          ∙ declared_newly (frames_of old.outer.items) (frame_of old.inner) (frame_of c.insert.new.self) c.args.name.now (known c.args.entry) inserted.bound absent other));
+    }
+
+pub invariant_of-self-in-Err : goal.invariant_of-self-in-Err
+invariant_of-self-in-Err c =
+    let old = c.args.self.now in
+    let inserted = c.in_ok-insert.ensures in
+    let absent = had c.in_ok-insert.field-0 (frame_of old.inner c.args.name.now) _ inserted.before c.if-is_some.ensures in
+    let back = taken_back c.args.name.now (known c.args.entry) (frame_of old.inner) (frame_of c.insert.new.self) (frame_of c.remove.new.self) inserted.bound c.remove.ensures absent in
+    record {
+      indexed = λ other.
+          c.in-Err.ensures.refused other ∙ (old.indexed other ∙ ap (λ (f : Frame). declaring 0 (frames_of old.outer.items ++ f ∷ []) other) (sym back));
+    }
+
+pub returns-in-Err-clause-refused : goal.returns-in-Err-clause-refused
+returns-in-Err-clause-refused c =
+    let old = c.args.self.now in
+    let inserted = c.in_ok-insert.ensures in
+    let absent = had c.in_ok-insert.field-0 (frame_of old.inner c.args.name.now) _ inserted.before c.if-is_some.ensures in
+    let back = taken_back c.args.name.now (known c.args.entry) (frame_of old.inner) (frame_of c.insert.new.self) (frame_of c.remove.new.self) inserted.bound c.remove.ensures absent in
+    ap (λ (f : Frame). record { outer = frames_of old.outer.items; inner = f }) back
