@@ -28,7 +28,7 @@ mutual
   same_body_slots (Then s rest) = ap₂ max (same_slots s) (same_body_slots rest)
 
 mutual
-  same_locals : (s : Statement) → locals (erased s) ≡ locals s
+  pub same_locals : (s : Statement) → locals (erased s) ≡ locals s
   same_locals (Nothing at) = refl
   same_locals (Evaluated e at) = refl
   same_locals (Declared ds at) = refl
@@ -47,7 +47,7 @@ mutual
   same_body_locals NoStatement = refl
   same_body_locals (Then s rest) = ap₂ (λ a b. a ++ b) (same_locals s) (same_body_locals rest)
 
-same_frame : (ps : List Parameter) (body : Statements) → frame_of ps (erased_all body) ≡ frame_of ps body
+pub same_frame : (ps : List Parameter) (body : Statements) → frame_of ps (erased_all body) ≡ frame_of ps body
 same_frame ps body = let slots = same_body_slots body in let those = same_body_locals body in rw (slots, those) refl
 
 same_framed : (f : Function) (body : Option Statements) → framed (record f { body = option_map erased_all f.body }) (option_map erased_all body) ≡ framed f body

@@ -154,7 +154,7 @@ fn branch<'a>(left_nought: bool, right_nought: bool, a: Seen<'a>, b: Seen<'a>) -
 }
 
 /// `a[i]` is `*(a + i)` (6.5.2.1).
-pub(crate) fn element<'a>(a: Seen<'a>, b: Seen<'a>) -> Option<Seen<'a>>
+pub fn element<'a>(a: Seen<'a>, b: Seen<'a>) -> Option<Seen<'a>>
     ensures ty { seen_some result ≡ element_rule (seen a.entry) (seen b.entry) }
     ensures flat { is_flat result ≡ true }
 {

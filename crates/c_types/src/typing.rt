@@ -147,7 +147,8 @@ fn note_place(place: bool, possible: bool, at: Place, least: &mut Least)
     }
 }
 
-fn where_right<'a>(right: bool, ty: Option<Seen<'a>>) -> Option<Seen<'a>>
+/// A type, where a node is right.
+pub fn where_right<'a>(right: bool, ty: Option<Seen<'a>>) -> Option<Seen<'a>>
     ensures { seen_some result ≡ where_right right (seen_some ty.entry) }
 {
     if right { ty } else { None }

@@ -1,0 +1,36 @@
+use Rattle.std.proofs.Common.{subst}
+use Rattle.c_tree.specs.declared.operator.Binary.TheVariants as binary
+use Rattle.c_meaning.specs.declared.node.NodeKind.TheVariants as k
+use Rattle.c_meaning.specs.Actions.{value_run}
+use Rattle.c_meaning.specs.Eval.{strict}
+use Rattle.c_meaning.specs.Nodes.{placed, element_run, called, call_of, used}
+use Rattle.c_meaning.specs.Turned.{Plans}
+use Rattle.c_meaning.proofs.Planned.{plans_value}
+use Rattle.c_meaning.proofs.Views.{element_is, call_is}
+use Rattle.c_meaning.proofs.evaluating.value.Goals as goal
+
+pub returns-in_ok-element-in-Element : goal.returns-in_ok-element-in-Element
+returns-in_ok-element-in-Element c =
+    let at = c.args.node.now.place in
+    let e = c.in-Element in
+    let old = c.args.work.now.items in
+    let new = c.element.new.work.items in
+    let right = subst (λ b. Plans (λ definitions input calls. element_run e.c e.d e.held at (value_run definitions input calls c.deref-in-Element.result.now) (value_run definitions input calls b)) old new) c.deref-in-Element-2.ensures c.in_ok-element-in-Element.ensures in
+    let both = subst (λ a. Plans (λ definitions input calls. element_run e.c e.d e.held at (value_run definitions input calls a) (value_run definitions input calls e.b.value)) old new) c.deref-in-Element.ensures right in
+    plans_value c.args.node.now (k.Element e.c e.d e.held e.a e.b) e.is
+    (λ definitions input calls.
+    placed (element_run e.c e.d e.held at (value_run definitions input calls e.a.value) (value_run definitions input calls e.b.value)) (strict binary.Plus e.c e.d at (value_run definitions input calls e.a.value) (value_run definitions input calls e.b.value)) at)
+    (λ definitions input calls. element_is definitions input calls e.c e.d e.held e.a e.b at)
+    old new both
+
+pub returns-in_ok-used_call-in-Call : goal.returns-in_ok-used_call-in-Call
+returns-in_ok-used_call-in-Call c =
+    let at = c.args.node.now.place in
+    let e = c.in-Call in
+    let old = c.args.work.now.items in
+    let new = c.used_call.new.work.items in
+    let whole = subst (λ all. Plans (λ definitions input calls. used (call_of definitions input calls e.target all) at) old new) c.as_slice.ensures.value c.in_ok-used_call-in-Call.ensures in
+    plans_value c.args.node.now (k.Call e.target e.all) e.is
+    (λ definitions input calls. called (call_of definitions input calls e.target e.all.items) at)
+    (λ definitions input calls. call_is definitions input calls e.target e.all at)
+    old new whole

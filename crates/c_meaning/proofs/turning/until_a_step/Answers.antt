@@ -1,0 +1,47 @@
+use Rattle.std.proofs.Common.{◌≡◌, ◌∙◌, ℕ, List, [], ◌∷◌, ◌++◌, Option, Err, refl, sym, ap, reverse, append-nil}
+use Rattle.std.proofs.lemmas.List.{reverse-append}
+use Rattle.std.proofs.lemmas.Result.{err_from_is_err_and}
+use Rattle.c_tree.specs.Syntax.{Part}
+use Rattle.c_meaning.specs.declared.machine.Machine.{Machine}
+use Rattle.c_meaning.specs.declared.pending.Pending.{Pending}
+use Rattle.c_meaning.specs.declared.pending.Work.{Work}
+use Rattle.c_meaning.specs.Machine.{store_of}
+use Rattle.c_meaning.specs.Names.{Definition}
+use Rattle.c_meaning.specs.Pending.{after}
+use Rattle.c_meaning.specs.Routines.{definitions_of}
+use Rattle.c_meaning.specs.Run.{Ended}
+use Rattle.c_meaning.specs.Turned.{all_after}
+use Rattle.c_meaning.proofs.turning.until_a_step.Goals as goal
+
+module _ (definitions : List Definition) (text : List Part) (input : List ℕ) (p : Pending) (m : Machine) where
+  abbrev working : List Work → Ended (Option ℕ)
+  working w = after definitions text input w p.depth p.flow (reverse p.values.items) (store_of m) m.left
+
+  -- the last piece of work that is kept is the next one
+  taken : (left : List Work) (w : Work) → p.work.items ≡ left ++ w ∷ [] → all_after definitions text input p m ≡ working (w ∷ reverse left)
+  taken left w e = ap working (ap reverse e ∙ reverse-append left (w ∷ []))
+
+  none_taken : (left : List Work) → p.work.items ≡ left ++ [] → all_after definitions text input p m ≡ working (reverse left)
+  none_taken left e = ap (λ w. working (reverse w)) (e ∙ append-nil left)
+
+pub loop-init : goal.loop-init
+loop-init c = λ text are. refl
+
+pub returns-in_default-clause-turned : goal.returns-in_default-clause-turned
+returns-in_default-clause-turned c = λ text are.
+    c.loop.invariant text are ∙ none_taken (definitions_of text) text c.args.input.now c.loop.pending c.loop.machine c.pop.new.self.items c.in_default.ensures.items
+
+pub returns-in_err-turn-clause-turned : goal.returns-in_err-turn-clause-turned
+returns-in_err-turn-clause-turned c = λ text are.
+    let p = err_from_is_err_and c.from_residual.result c.from_residual.ensures.1 in
+    let same : c.from_residual.result ≡ c.turn.result = p.1 ∙ (ap Err p.2 ∙ sym c.in_err-turn.was) in
+    let next = c.loop.invariant text are ∙ taken (definitions_of text) text c.args.input.now c.loop.pending c.loop.machine c.pop.new.self.items c.in-Some.work c.in-Some.ensures.items in
+    rw (next, same) (c.turn.ensures text are)
+
+pub returns-then-machine-before-clause-turned : goal.returns-then-machine-before-clause-turned
+returns-then-machine-before-clause-turned c = λ text are.
+    c.loop.invariant text are ∙ taken (definitions_of text) text c.args.input.now c.loop.pending c.loop.machine c.pop.new.self.items c.in-Some.work c.in-Some.ensures.items ∙ c.in_ok-turn.ensures text are
+
+pub loop-preserved : goal.loop-preserved
+loop-preserved c = λ text are.
+    c.loop.invariant text are ∙ taken (definitions_of text) text c.args.input.now c.loop.pending c.loop.machine c.pop.new.self.items c.in-Some.work c.in-Some.ensures.items ∙ c.in_ok-turn.ensures text are

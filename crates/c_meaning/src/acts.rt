@@ -1,0 +1,358 @@
+//! Acts on values that are at hand.
+
+ghost use Rattle.std.specs.Prelude.{◌≡◌, ◌||◌, ◌&&◌, ◌≤◌, ◌%◌, ◌^◌, ℕ, ℤ, pos, not, true, ◌+ℤ◌, ◌*ℤ◌, ◌-ℤ◌, neg_ℤ, nat_abs, int_div, FitsSigned, IfSome};
+ghost use Rattle.std.specs.Int.{w32, w64, cast_unsigned};
+ghost use Rattle.c_tree.specs.Constant.{is_shift};
+ghost use Rattle.c_tree.specs.Words.{prefix_word};
+ghost use Rattle.c_meaning.specs.Acts.{stepped_at};
+ghost use Rattle.c_meaning.specs.Eval.{infix_act, combined, assigned, arithmetic, sum, difference, other_act, compared, is_unsigned, is_order, amount, step_operator, step_value, outcome, getchar, put};
+ghost use Rattle.c_meaning.specs.Machine.{Ran, SameSteps};
+ghost use Rattle.c_meaning.specs.Pointers.{along, moved, distance};
+
+use crate::arithmetic::{infix_word, prefix_word};
+use crate::halt::Halt;
+use crate::kind::{Held, Operand};
+use crate::machine::Machine;
+use c_tree::{Binary, Place, Step, Unary, Undefined};
+
+fn is_shift(op: Binary) -> bool
+    ensures { result ≡ is_shift op }
+{
+    matches!(op, Binary::Left | Binary::Right)
+}
+
+fn is_order(op: Binary) -> bool
+    ensures { result ≡ is_order op }
+{
+    matches!(
+        op,
+        Binary::Less | Binary::Greater | Binary::LessEqual | Binary::GreaterEqual
+    )
+}
+
+/// What `++` or `--` does with a value and 1.
+fn operator_of(how: Step) -> Binary
+    ensures { result ≡ step_operator how }
+{
+    match how {
+        Step::RaiseFirst | Step::RaiseLast => Binary::Plus,
+        Step::LowerFirst | Step::LowerLast => Binary::Minus,
+    }
+}
+
+impl Operand {
+    pub(crate) fn is_unsigned(self) -> bool
+        ensures { result ≡ is_unsigned self }
+    {
+        !matches!(self, Operand::Signed)
+    }
+
+    /// The number of elements that an integer's word stands for.
+    fn elements(self, value: u32) -> Elements
+        ensures { result.count ≡ amount self value }
+    {
+        match self {
+            Operand::Signed => Elements {
+                count: i64::from(value.cast_signed()),
+            },
+            Operand::Unsigned | Operand::Pointer(_) => Elements {
+                count: i64::from(value),
+            },
+        }
+    }
+}
+
+/// A number of elements that a pointer is moved by.
+#[derive(Clone, Copy)]
+struct Elements {
+    count: i64,
+    ghost word: { nat_abs count ≤ 2 ^ 32 },
+}
+
+/// Where a pointer leads, as a number.
+#[derive(Clone, Copy)]
+struct Destination {
+    exact: i64,
+    ghost within: { FitsSigned w64 exact },
+}
+
+impl Elements {
+    /// As many elements the other way.
+    fn back(self) -> Elements
+        ensures { result.count ≡ neg_ℤ self.count }
+    {
+        Elements { count: -self.count }
+    }
+
+    /// Where a pointer leads that is moved by them, as far as 64 bits go. The objects of a program that has a layout are far smaller.
+    fn destination(self, size: u64, pointer: u32) -> Option<Destination>
+        ensures { IfSome result (λ to. to.exact ≡ pos pointer +ℤ (self.count *ℤ pos size)) }
+    {
+        let bytes = self.count.checked_mul(i64::try_from(size).ok()?)?;
+        let exact = bytes.checked_add(i64::from(pointer))?;
+        Some(Destination { exact })
+    }
+}
+
+/// The elements from one pointer to another, toward zero, as a word, as far as 32 bits go. The objects of a program that has a layout have no more, and an element of a program that is accepted has bytes.
+fn elements_between(size: u64, x: u32, y: u32) -> Option<u32>
+    ensures { IfSome result (λ count. count ≡ cast_unsigned w32 (int_div (pos x -ℤ pos y) (pos size))) }
+{
+    let bytes = i64::from(x) - i64::from(y);
+    let elements = bytes.checked_div(i64::try_from(size).ok()?)?;
+    match i32::try_from(elements) {
+        Ok(elements) => Some(elements.cast_unsigned()),
+        Err(_) => None,
+    }
+}
+
+impl Machine {
+    /// Arithmetic on two integers.
+    fn arithmetic(
+        &self,
+        op: Binary,
+        c: Operand,
+        d: Operand,
+        x: u32,
+        y: u32,
+        at: Place,
+    ) -> Result<u32, Halt>
+        ensures { Ran (arithmetic op c d x y at) self.now self.now result }
+    {
+        let unsigned = c.is_unsigned() || !is_shift(op) && d.is_unsigned();
+        match infix_word(op, unsigned, x, y) {
+            Ok(value) => Ok(value),
+            Err(act) => Err(Halt::Undefined(act, at)),
+        }
+    }
+
+    /// A destination, where it is along one object with a pointer. Only then does it have to be a word, which it is where a program has a layout.
+    fn reach(&self, pointer: u32, to: Destination, at: Place) -> Result<u32, Halt>
+        ensures { Ran (along (pos pointer) to.exact (nat_abs to.exact) at) self.now self.now result }
+    {
+        if !self.memory.along(u64::from(pointer), to.exact) {
+            return Err(Halt::Undefined(Undefined::Pointer, at));
+        }
+        match u32::try_from(to.exact) {
+            Ok(address) => Ok(address),
+            Err(_) => Err(Halt::OutOfMemory),
+        }
+    }
+
+    /// A pointer that is moved by so many elements.
+    fn moved(&self, size: u64, by: Elements, pointer: u32, at: Place) -> Result<u32, Halt>
+        ensures { Ran (moved size by.count pointer at) self.now self.now result }
+    {
+        match by.destination(size, pointer) {
+            Some(to) => self.reach(pointer, to, at),
+            None => Err(Halt::OutOfMemory),
+        }
+    }
+
+    /// The elements from one pointer to another, toward zero.
+    fn distance(&self, size: u64, x: u32, y: u32, at: Place) -> Result<u32, Halt>
+        ensures { Ran (distance size x y at) self.now self.now result }
+    {
+        if !self.memory.along(u64::from(x), i64::from(y)) {
+            return Err(Halt::Undefined(Undefined::Pointer, at));
+        }
+        elements_between(size, x, y).ok_or(Halt::OutOfMemory)
+    }
+
+    /// Two pointers, compared.
+    fn compared(&self, op: Binary, x: u32, y: u32, at: Place) -> Result<u32, Halt>
+        ensures { Ran (compared op x y at) self.now self.now result }
+    {
+        if is_order(op) && !self.memory.along(u64::from(x), i64::from(y)) {
+            return Err(Halt::Undefined(Undefined::Pointer, at));
+        }
+        match infix_word(op, true, x, y) {
+            Ok(value) => Ok(value),
+            Err(act) => Err(Halt::Undefined(act, at)),
+        }
+    }
+
+    /// `x + y`, where one may be a pointer.
+    fn sum(&self, c: Operand, d: Operand, x: u32, y: u32, at: Place) -> Result<u32, Halt>
+        ensures { Ran (sum c d x y at) self.now self.now result }
+    {
+        match c {
+            Operand::Pointer(size) => self.moved(size, d.elements(y), x, at),
+            Operand::Signed | Operand::Unsigned => match d {
+                Operand::Pointer(size) => self.moved(size, c.elements(x), y, at),
+                Operand::Signed | Operand::Unsigned => {
+                    self.arithmetic(Binary::Plus, c, d, x, y, at)
+                }
+            },
+        }
+    }
+
+    /// `x - y`, where x may be a pointer, or both.
+    fn difference(&self, c: Operand, d: Operand, x: u32, y: u32, at: Place) -> Result<u32, Halt>
+        ensures { Ran (difference c d x y at) self.now self.now result }
+    {
+        match c {
+            Operand::Pointer(size) => match d {
+                Operand::Pointer(_) => self.distance(size, x, y, at),
+                Operand::Signed | Operand::Unsigned => {
+                    self.moved(size, d.elements(y).back(), x, at)
+                }
+            },
+            Operand::Signed | Operand::Unsigned => {
+                self.arithmetic(Binary::Minus, c, d, x, y, at)
+            }
+        }
+    }
+
+    /// What an operator does that is neither `+` nor `-`.
+    fn other_act(
+        &self,
+        op: Binary,
+        c: Operand,
+        d: Operand,
+        x: u32,
+        y: u32,
+        at: Place,
+    ) -> Result<u32, Halt>
+        ensures { Ran (other_act op c d x y at) self.now self.now result }
+    {
+        match c {
+            Operand::Pointer(_) => self.compared(op, x, y, at),
+            Operand::Signed | Operand::Unsigned => self.arithmetic(op, c, d, x, y, at),
+        }
+    }
+
+    /// What an operator does with two values.
+    pub(crate) fn infix_act(
+        &self,
+        op: Binary,
+        c: Operand,
+        d: Operand,
+        x: u32,
+        y: u32,
+        at: Place,
+    ) -> Result<u32, Halt>
+        ensures { Ran (infix_act op c d x y at) self.now self.now result }
+    {
+        match op {
+            Binary::Plus => self.sum(c, d, x, y, at),
+            Binary::Minus => self.difference(c, d, x, y, at),
+            _ => self.other_act(op, c, d, x, y, at),
+        }
+    }
+
+    /// Combines what an object holds with a value, and stores it: the value that it held, and the one that it holds.
+    pub(crate) fn combined(
+        &mut self,
+        op: Binary,
+        c: Operand,
+        d: Operand,
+        held: Held,
+        own: Place,
+        at: Place,
+        address: u32,
+        value: u32,
+    ) -> Result<(u32, u32), Halt>
+        ensures ran { Ran (combined op c d held own at address value) self.old self.new result }
+        ensures steps { SameSteps self.old self.new }
+    {
+        let old = self.load(held, address, own)?;
+        let combined = self.infix_act(op, c, d, old, value, at)?;
+        let new = self.store(held, u64::from(address), combined, at)?;
+        Ok((old, new))
+    }
+
+    /// Assigns a value, combined by an operator with what was there or as it is.
+    pub(crate) fn assigned(
+        &mut self,
+        how: Option<Binary>,
+        c: Operand,
+        d: Operand,
+        held: Held,
+        own: Place,
+        at: Place,
+        address: u32,
+        value: u32,
+    ) -> Result<u32, Halt>
+        ensures ran { Ran (assigned how c d held own at address value) self.old self.new result }
+        ensures steps { SameSteps self.old self.new }
+    {
+        match how {
+            None => self.store(held, u64::from(address), value, at),
+            Some(op) => {
+                let (_, new) = self.combined(op, c, d, held, own, at, address, value)?;
+                Ok(new)
+            }
+        }
+    }
+
+    /// Raises or lowers what an object holds by 1.
+    #[tactic(auto, unfolding(crate::specs::Acts::stepped_at))]
+    pub(crate) fn stepped(
+        &mut self,
+        how: Step,
+        c: Operand,
+        held: Held,
+        own: Place,
+        at: Place,
+        address: u32,
+    ) -> Result<u32, Halt>
+        ensures ran { Ran (stepped_at how c held own at address) self.old self.new result }
+        ensures steps { SameSteps self.old self.new }
+    {
+        let (old, new) = self.combined(
+            operator_of(how),
+            c,
+            Operand::Signed,
+            held,
+            own,
+            at,
+            address,
+            1,
+        )?;
+        Ok(match how {
+            Step::RaiseFirst | Step::LowerFirst => new,
+            Step::RaiseLast | Step::LowerLast => old,
+        })
+    }
+
+    /// What an operator does with one value.
+    pub(crate) fn prefix_act(
+        &self,
+        op: Unary,
+        c: Operand,
+        value: u32,
+        at: Place,
+    ) -> Result<u32, Halt>
+        ensures { Ran (outcome (prefix_word op (is_unsigned c) value) at) self.now self.now result }
+    {
+        match prefix_word(op, c.is_unsigned(), value) {
+            Ok(word) => Ok(word),
+            Err(act) => Err(Halt::Undefined(act, at)),
+        }
+    }
+
+    /// The next byte of the input, or -1 as a word at its end.
+    pub(crate) fn getchar(&mut self, input: &[u8]) -> Result<Option<u32>, Halt>
+        ensures ran { Ran (getchar input.now) self.old self.new result }
+        ensures steps { SameSteps self.old self.new }
+    {
+        match input.get(self.cursor) {
+            Some(byte) => {
+                self.cursor += 1;
+                Ok(Some(u32::from(*byte)))
+            }
+            None => Ok(Some(u32::MAX)),
+        }
+    }
+
+    /// Puts out a number's lowest byte.
+    pub(crate) fn putchar(&mut self, value: u32) -> Result<Option<u32>, Halt>
+        ensures ran { Ran (put (value % 2 ^ 8)) self.old self.new result }
+        ensures steps { SameSteps self.old self.new }
+    {
+        let byte = value % 256;
+        self.output.push(byte as u8)?;
+        Ok(Some(byte))
+    }
+}

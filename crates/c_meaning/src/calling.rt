@@ -1,0 +1,219 @@
+//! Calls of functions.
+
+ghost use Rattle.std.specs.Prelude.{◌≡◌, ◌<◌, ℕ, suc, List, IfOk, OnOk, drop, reverse, take};
+ghost use Rattle.c_tree.specs.Syntax.{Part};
+ghost use Rattle.c_meaning.specs.Actions.{arguments_run};
+ghost use Rattle.c_meaning.specs.Called.{passing_one, entered_after, routine_after, target_after};
+ghost use Rattle.c_meaning.specs.Eval.{Calls};
+ghost use Rattle.c_meaning.specs.Machine.{Ran};
+ghost use Rattle.c_meaning.specs.Meaning.{value_of_flow};
+ghost use Rattle.c_meaning.specs.Names.{Definition};
+ghost use Rattle.c_meaning.specs.Routines.{definitions_of, AreRoutinesOf};
+ghost use Rattle.c_meaning.specs.Turned.{task_after, work_after, all_after, Turned};
+ghost use Rattle.c_meaning.specs.declared.flow.Flow.TheVariants.{Normal};
+ghost use Rattle.c_meaning.specs.declared.node.Target.TheVariants as target;
+ghost use Rattle.c_meaning.specs.declared.pending.Edge.TheVariants as edge;
+ghost use Rattle.c_meaning.specs.declared.pending.Task.TheVariants as task;
+ghost use Rattle.c_meaning.specs.declared.pending.Work.TheVariants as item;
+
+use crate::flow::Flow;
+use crate::halt::Halt;
+use crate::machine::Machine;
+use crate::node::Target;
+use crate::pending::{Edge, Pending, Task, Work};
+use crate::planning::plan;
+use crate::resolving::past;
+use crate::routine::{Parameter, Routine};
+use bop_bits::STACK_FROM;
+use c_tree::{OutOfMemory, Place, Undefined};
+
+/// Takes so many of the topmost values, in the order in which they came.
+fn take_values(values: &mut Vec<u32>, count: usize) -> Result<Vec<u32>, OutOfMemory>
+    ensures taken { IfOk result (λ taken. taken.items ≡ reverse (take count (reverse values.old.items))) }
+    ensures left { OnOk result (reverse values.new.items ≡ drop count (reverse values.old.items)) }
+{
+    let from = values.len().saturating_sub(count);
+    Ok(values.split_off(from)?)
+}
+
+impl Machine {
+    /// Puts an argument into its parameter.
+    fn pass_one(&mut self, parameter: Parameter, value: u32) -> Result<(), Halt>
+        ensures { Ran (passing_one parameter value) self.old self.new result }
+    {
+        let address = self.in_frame(parameter.offset);
+        self.store(parameter.held, address, value, parameter.place)?;
+        Ok(())
+    }
+
+    /// Puts arguments into their parameters.
+    fn pass_all(&mut self, parameters: &[Parameter], arguments: &[u32]) -> Result<(), Halt>
+        ensures { (definitions : List Definition) (input : List ℕ) (calls : Calls) → Ran (arguments_run definitions input calls parameters.now arguments.now) self.old self.new result }
+    {
+        let mut rest = arguments;
+        for parameter in parameters {
+            let Some(value) = rest.first() else {
+                return Ok(());
+            };
+            match self.pass_one(*parameter, *value) {
+                Ok(()) => rest = past(rest, 1),
+                Err(why) => return Err(why),
+            }
+        }
+        Ok(())
+    }
+}
+
+/// The parameters of a function take their arguments, and its body begins.
+fn begin<'a>(
+    pending: &mut Pending<'a>,
+    machine: &mut Machine,
+    routine: &'a Routine,
+    arguments: &[u32],
+) -> Result<(), Halt>
+    requires { pending.old.flow ≡ Normal }
+    ensures { (definitions : List Definition) (text : List Part) (input : List ℕ) → Turned definitions text input (entered_after definitions text input routine.now arguments.now pending.old machine.old) pending.new machine.new result }
+{
+    let live = machine.memory.live_count();
+    pending.work.push(Work::Edge(Edge::Close(live)))?;
+    plan(&mut pending.work, &[Task::All(&routine.body)])?;
+    machine.open_all(&routine.locals)?;
+    machine.pass_all(&routine.parameters, arguments)
+}
+
+/// A function is entered, where the stack has room for its frame.
+fn enter<'a>(
+    pending: &mut Pending<'a>,
+    machine: &mut Machine,
+    routine: &'a Routine,
+    arguments: &[u32],
+) -> Result<(), Halt>
+    requires flow { pending.old.flow ≡ Normal }
+    requires depth { 0 < pending.old.depth }
+    ensures { (definitions : List Definition) (text : List Part) (input : List ℕ) (depth : ℕ) → pending.old.depth ≡ suc depth → Turned definitions text input (routine_after definitions text input routine.now arguments.now depth pending.old machine.old) pending.new machine.new result }
+{
+    if u64::from(machine.sp) < u64::from(STACK_FROM) + u64::from(routine.frame) {
+        return Err(Halt::StackFull);
+    }
+    pending
+        .work
+        .push(Work::Edge(Edge::Leave(machine.sp, routine.is_main)))?;
+    pending.depth -= 1;
+    machine.sp -= routine.frame;
+    begin(pending, machine, routine, arguments)
+}
+
+/// A call of a function that the text defines, by its number. Calls nest as deep as there are steps at most.
+fn call_routine<'a>(
+    pending: &mut Pending<'a>,
+    machine: &mut Machine,
+    number: u32,
+    arguments: &[u32],
+    routines: &'a [Routine],
+) -> Result<(), Halt>
+    requires { pending.old.flow ≡ Normal }
+    ensures { (text : List Part) (input : List ℕ) → AreRoutinesOf text routines.entry.now → Turned (definitions_of text) text input (target_after (definitions_of text) text input (target.Function number) arguments.now pending.old machine.old) pending.new machine.new result }
+{
+    let Some(routine) = routines.get(number as usize) else {
+        pending.flow = Flow::Gave(None);
+        return Ok(());
+    };
+    if pending.depth == 0 {
+        return Err(Halt::More);
+    }
+    enter(pending, machine, routine, arguments)
+}
+
+/// A call with arguments that are at hand.
+fn run_target<'a>(
+    pending: &mut Pending<'a>,
+    machine: &mut Machine,
+    target: Target,
+    arguments: &[u32],
+    routines: &'a [Routine],
+    input: &[u8],
+) -> Result<(), Halt>
+    requires { pending.old.flow ≡ Normal }
+    ensures { (text : List Part) → AreRoutinesOf text routines.entry.now → Turned (definitions_of text) text input.now (target_after (definitions_of text) text input.now target arguments.now pending.old machine.old) pending.new machine.new result }
+{
+    match target {
+        Target::Function(number) => call_routine(pending, machine, number, arguments, routines),
+        Target::Getchar => {
+            pending.flow = Flow::Gave(machine.getchar(input)?);
+            Ok(())
+        }
+        Target::Putchar => {
+            pending.flow = Flow::Gave(machine.putchar(arguments.first().copied().unwrap_or(0))?);
+            Ok(())
+        }
+        Target::Undefined => {
+            pending.flow = Flow::Gave(None);
+            Ok(())
+        }
+    }
+}
+
+/// A call, whose arguments are the topmost values.
+pub(crate) fn call<'a>(
+    pending: &mut Pending<'a>,
+    machine: &mut Machine,
+    target: Target,
+    count: usize,
+    routines: &'a [Routine],
+    input: &[u8],
+) -> Result<(), Halt>
+    requires { pending.old.flow ≡ Normal }
+    ensures { (text : List Part) → AreRoutinesOf text routines.entry.now → Turned (definitions_of text) text input.now (task_after (definitions_of text) text input.now (task.Call target count) pending.old machine.old) pending.new machine.new result }
+{
+    machine.count()?;
+    let arguments = take_values(&mut pending.values, count)?;
+    run_target(pending, machine, target, &arguments, routines, input)
+}
+
+/// The value of a call is used.
+pub(crate) fn take_value(
+    pending: &mut Pending<'_>,
+    machine: &mut Machine,
+    at: Place,
+) -> Result<(), Halt>
+    ensures { (definitions : List Definition) (text : List Part) (input : List ℕ) → Turned definitions text input (work_after definitions text input (item.Edge (edge.Use at)) pending.old machine.old) pending.new machine.new result }
+{
+    let Flow::Gave(Some(value)) = pending.flow else {
+        return Err(Halt::Undefined(Undefined::NoValue, at));
+    };
+    pending.flow = Flow::Normal;
+    pending.values.push(value)?;
+    Ok(())
+}
+
+/// The value of a call isn't used.
+pub(crate) fn forget(pending: &mut Pending<'_>, machine: &mut Machine)
+    ensures { (definitions : List Definition) (text : List Part) (input : List ℕ) → work_after definitions text input (item.Edge edge.Forget) pending.old machine.old ≡ all_after definitions text input pending.new machine.new }
+{
+    pending.flow = Flow::Normal;
+}
+
+/// The value of a function whose body has ended so. The end of `main` gives 0.
+fn value_of_flow(is_main: bool, flow: Flow) -> Option<u32>
+    ensures { result ≡ value_of_flow is_main flow }
+{
+    match flow {
+        Flow::Gave(value) => value,
+        _ => is_main.then_some(0),
+    }
+}
+
+/// A function has ended.
+pub(crate) fn leave(
+    pending: &mut Pending<'_>,
+    machine: &mut Machine,
+    sp: u32,
+    is_main: bool,
+) -> Result<(), Halt>
+    ensures { (definitions : List Definition) (text : List Part) (input : List ℕ) → Turned definitions text input (work_after definitions text input (item.Edge (edge.Leave sp is_main)) pending.old machine.old) pending.new machine.new result }
+{
+    pending.depth = pending.depth.checked_add(1).ok_or(Halt::OutOfMemory)?;
+    pending.flow = Flow::Gave(value_of_flow(is_main, pending.flow));
+    machine.sp = sp;
+    Ok(())
+}

@@ -1,0 +1,191 @@
+//! Tasks that plan other work, by the values that are at hand.
+
+ghost use Rattle.std.specs.Prelude.{◌≡◌, ℕ, List, reverse};
+ghost use Rattle.c_tree.specs.Constant.{decides};
+ghost use Rattle.c_tree.specs.Syntax.{Part};
+ghost use Rattle.c_meaning.specs.Names.{Definition};
+ghost use Rattle.c_meaning.specs.Turned.{all_after, task_after, Turned};
+ghost use Rattle.c_meaning.specs.declared.flow.Flow.TheVariants.{Normal};
+ghost use Rattle.c_meaning.specs.declared.pending.Task.TheVariants as task;
+
+use crate::action::{Action, Begun, Passed};
+use crate::flow::Flow;
+use crate::halt::Halt;
+use crate::machine::Machine;
+use crate::node::Node;
+use crate::pending::{Pending, Task, Wanted, Work};
+use crate::planning::plan;
+use crate::tasks::pop;
+use c_tree::Binary;
+
+/// Whether the left operand of `&&` or `||` decides.
+fn decides(op: Binary, value: u32) -> bool
+    ensures { result ≡ decides op value }
+{
+    match op {
+        Binary::And => value == 0,
+        Binary::Or => value != 0,
+        _ => false,
+    }
+}
+
+/// The right operand, where the left one doesn't decide.
+pub(crate) fn decide<'a>(
+    pending: &mut Pending<'a>,
+    machine: &mut Machine,
+    op: Binary,
+    right: &'a Node,
+) -> Result<(), Halt>
+    requires { pending.old.flow ≡ Normal }
+    ensures { (definitions : List Definition) (text : List Part) (input : List ℕ) → Turned definitions text input (task_after definitions text input (task.Decide op right.entry) pending.old machine.old) pending.new machine.new result }
+{
+    let left = pop(&mut pending.values);
+    if decides(op, left) {
+        pending.values.push(left)?;
+        Ok(())
+    } else {
+        plan(&mut pending.work, &[Task::Eval(Wanted::Value, right)])?;
+        Ok(())
+    }
+}
+
+/// One of two expressions, by the value of the test.
+pub(crate) fn choose<'a>(
+    pending: &mut Pending<'a>,
+    machine: &mut Machine,
+    first: &'a Node,
+    other: &'a Node,
+) -> Result<(), Halt>
+    requires { pending.old.flow ≡ Normal }
+    ensures { (definitions : List Definition) (text : List Part) (input : List ℕ) → Turned definitions text input (task_after definitions text input (task.Choose first.entry other.entry) pending.old machine.old) pending.new machine.new result }
+{
+    let test = pop(&mut pending.values);
+    if test == 0 {
+        plan(&mut pending.work, &[Task::Eval(Wanted::Value, other)])?;
+        Ok(())
+    } else {
+        plan(&mut pending.work, &[Task::Eval(Wanted::Value, first)])?;
+        Ok(())
+    }
+}
+
+/// One of two statements, by the value of the test.
+pub(crate) fn branch<'a>(
+    pending: &mut Pending<'a>,
+    machine: &mut Machine,
+    first: &'a Action,
+    other: Option<&'a Action>,
+) -> Result<(), Halt>
+    requires { pending.old.flow ≡ Normal }
+    ensures { (definitions : List Definition) (text : List Part) (input : List ℕ) → Turned definitions text input (task_after definitions text input (task.Branch first.entry other.entry) pending.old machine.old) pending.new machine.new result }
+{
+    let test = pop(&mut pending.values);
+    if test != 0 {
+        plan(&mut pending.work, &[Task::Do(first)])?;
+        return Ok(());
+    }
+    match other {
+        None => Ok(()),
+        Some(other) => {
+            plan(&mut pending.work, &[Task::Do(other)])?;
+            Ok(())
+        }
+    }
+}
+
+/// Expressions, one behind the other.
+#[tactic(auto, using(crate::proofs::Runs::assoc))]
+pub(crate) fn values<'a>(
+    pending: &mut Pending<'a>,
+    machine: &mut Machine,
+    nodes: &'a [Node],
+) -> Result<(), Halt>
+    requires { pending.old.flow ≡ Normal }
+    ensures { (definitions : List Definition) (text : List Part) (input : List ℕ) → Turned definitions text input (task_after definitions text input (task.Values nodes.entry) pending.old machine.old) pending.new machine.new result }
+{
+    match nodes {
+        [] => Ok(()),
+        [first, rest @ ..] => {
+            plan(
+                &mut pending.work,
+                &[Task::Eval(Wanted::Value, first), Task::Values(rest)],
+            )?;
+            Ok(())
+        }
+    }
+}
+
+/// Statements, one behind the other.
+#[tactic(auto, using(crate::proofs::Runs::assoc))]
+pub(crate) fn all<'a>(
+    pending: &mut Pending<'a>,
+    machine: &mut Machine,
+    actions: &'a [Action],
+) -> Result<(), Halt>
+    requires { pending.old.flow ≡ Normal }
+    ensures { (definitions : List Definition) (text : List Part) (input : List ℕ) → Turned definitions text input (task_after definitions text input (task.All actions.entry) pending.old machine.old) pending.new machine.new result }
+{
+    match actions {
+        [] => Ok(()),
+        [first, rest @ ..] => {
+            plan(&mut pending.work, &[Task::Do(first), Task::All(rest)])?;
+            Ok(())
+        }
+    }
+}
+
+pub(crate) fn end(pending: &mut Pending<'_>, machine: &mut Machine, flow: Flow)
+    requires { pending.old.flow ≡ Normal }
+    ensures { (definitions : List Definition) (text : List Part) (input : List ℕ) → task_after definitions text input (task.End flow) pending.old machine.old ≡ all_after definitions text input pending.new machine.new }
+{
+    pending.flow = flow;
+}
+
+/// What a declarator does as it is passed.
+#[tactic(auto, using(crate::proofs::Runs::assoc))]
+pub(crate) fn pass_one<'a>(
+    pending: &mut Pending<'a>,
+    machine: &mut Machine,
+    passed: &'a Passed,
+) -> Result<(), Halt>
+    requires { pending.old.flow ≡ Normal }
+    ensures { (definitions : List Definition) (text : List Part) (input : List ℕ) → Turned definitions text input (task_after definitions text input (task.PassOne passed.entry) pending.old machine.old) pending.new machine.new result }
+{
+    let local = passed.local;
+    match &passed.begun {
+        Begun::Blank => {
+            let address = machine.in_frame(local.offset);
+            machine.memory.blank(address, local.size);
+            Ok(())
+        }
+        Begun::Set(held, node) => {
+            plan(
+                &mut pending.work,
+                &[
+                    Task::Eval(Wanted::Value, node),
+                    Task::Set(local, *held, passed.place),
+                ],
+            )?;
+            Ok(())
+        }
+        Begun::Nothing => Ok(()),
+    }
+}
+
+/// Declarators, one behind the other.
+pub(crate) fn pass<'a>(
+    pending: &mut Pending<'a>,
+    machine: &mut Machine,
+    passed: &'a [Passed],
+) -> Result<(), Halt>
+    requires { pending.old.flow ≡ Normal }
+    ensures { (definitions : List Definition) (text : List Part) (input : List ℕ) → Turned definitions text input (task_after definitions text input (task.Pass passed.entry) pending.old machine.old) pending.new machine.new result }
+{
+    match passed {
+        [] => Ok(()),
+        [first, rest @ ..] => {
+            plan(&mut pending.work, &[Task::PassOne(first), Task::Pass(rest)])?;
+            Ok(())
+        }
+    }
+}

@@ -1,0 +1,146 @@
+//! Loops.
+
+ghost use Rattle.std.specs.Prelude.{◌≡◌, ℕ, List, OnOk};
+ghost use Rattle.c_tree.specs.Syntax.{Part};
+ghost use Rattle.c_meaning.specs.Names.{Definition};
+ghost use Rattle.c_meaning.specs.Pending.{loop_again};
+ghost use Rattle.c_meaning.specs.Turned.{all_after, task_after, work_after, PlansFlow, Turned};
+ghost use Rattle.c_meaning.specs.declared.flow.Flow.TheVariants.{Normal};
+ghost use Rattle.c_meaning.specs.declared.pending.Edge.TheVariants as edge;
+ghost use Rattle.c_meaning.specs.declared.pending.Stage.TheVariants as stage;
+ghost use Rattle.c_meaning.specs.declared.pending.Task.TheVariants as task;
+ghost use Rattle.c_meaning.specs.declared.pending.Work.TheVariants as item;
+
+use crate::flow::Flow;
+use crate::halt::Halt;
+use crate::machine::Machine;
+use crate::pending::{Edge, Loop, Pending, Stage, Task, Wanted, Work};
+use crate::planning::plan;
+use crate::tasks::pop;
+use c_tree::OutOfMemory;
+
+/// A loop that begins tests at most once more than there are steps, since each test but the last is followed by one. A step was taken before, so one more can be counted.
+pub(crate) fn begin<'a>(
+    pending: &mut Pending<'a>,
+    machine: &mut Machine,
+    parts: Loop<'a>,
+) -> Result<(), Halt>
+    requires { pending.old.flow ≡ Normal }
+    ensures { (definitions : List Definition) (text : List Part) (input : List ℕ) → Turned definitions text input (task_after definitions text input (task.Loop stage.Begins parts.entry) pending.old machine.old) pending.new machine.new result }
+{
+    let Some(most) = machine.left.checked_add(1) else {
+        return Err(Halt::OutOfMemory);
+    };
+    plan(&mut pending.work, &[Task::Loop(Stage::Tests(most), parts)])?;
+    Ok(())
+}
+
+/// A loop tests. A test that is left out holds.
+#[tactic(auto, using(crate::proofs::Runs::assoc))]
+pub(crate) fn test<'a>(
+    pending: &mut Pending<'a>,
+    machine: &mut Machine,
+    most: u64,
+    parts: Loop<'a>,
+) -> Result<(), Halt>
+    requires { pending.old.flow ≡ Normal }
+    ensures { (definitions : List Definition) (text : List Part) (input : List ℕ) → Turned definitions text input (task_after definitions text input (task.Loop (stage.Tests most) parts.entry) pending.old machine.old) pending.new machine.new result }
+{
+    if most == 0 {
+        return Err(Halt::More);
+    }
+    match parts.test {
+        None => {
+            pending.values.push(1)?;
+            plan(
+                &mut pending.work,
+                &[Task::Loop(Stage::Turns(most - 1), parts)],
+            )?;
+            Ok(())
+        }
+        Some(test) => {
+            plan(
+                &mut pending.work,
+                &[
+                    Task::Eval(Wanted::Value, test),
+                    Task::Loop(Stage::Turns(most - 1), parts),
+                ],
+            )?;
+            Ok(())
+        }
+    }
+}
+
+/// A loop has tested.
+#[tactic(auto, using(crate::proofs::Runs::assoc))]
+pub(crate) fn turn<'a>(
+    pending: &mut Pending<'a>,
+    machine: &mut Machine,
+    most: u64,
+    parts: Loop<'a>,
+) -> Result<(), Halt>
+    requires { pending.old.flow ≡ Normal }
+    ensures { (definitions : List Definition) (text : List Part) (input : List ℕ) → Turned definitions text input (task_after definitions text input (task.Loop (stage.Turns most) parts.entry) pending.old machine.old) pending.new machine.new result }
+{
+    if pop(&mut pending.values) == 0 {
+        return Ok(());
+    }
+    machine.count()?;
+    pending
+        .work
+        .push(Work::Edge(Edge::Turned(Stage::Tests(most), parts)))?;
+    plan(&mut pending.work, &[Task::Do(parts.body)])?;
+    Ok(())
+}
+
+/// How a loop goes on that has turned.
+#[tactic(auto, using(crate::proofs::Runs::assoc))]
+fn again<'a>(work: &mut Vec<Work<'a>>, how: Stage, parts: Loop<'a>) -> Result<(), OutOfMemory>
+    ensures { OnOk result (PlansFlow (λ definitions input calls. loop_again definitions input calls how parts.entry) work.old.items work.new.items) }
+{
+    match how {
+        Stage::Begins => plan(work, &[Task::Loop(Stage::Begins, parts)]),
+        Stage::Tests(most) => step(work, most, parts),
+        Stage::Turns(most) => step(work, most, parts),
+    }
+}
+
+/// The step of a loop, and then its test.
+#[tactic(auto, using(crate::proofs::Runs::assoc))]
+fn step<'a>(work: &mut Vec<Work<'a>>, most: u64, parts: Loop<'a>) -> Result<(), OutOfMemory>
+    ensures { OnOk result (PlansFlow (λ definitions input calls. loop_again definitions input calls (stage.Tests most) parts.entry) work.old.items work.new.items) }
+{
+    match parts.step {
+        None => plan(work, &[Task::Loop(Stage::Tests(most), parts)]),
+        Some(node) => plan(
+            work,
+            &[
+                Task::Eval(Wanted::Nothing, node),
+                Task::Loop(Stage::Tests(most), parts),
+            ],
+        ),
+    }
+}
+
+/// A loop has turned, and its body has ended somehow.
+pub(crate) fn turned<'a>(
+    pending: &mut Pending<'a>,
+    machine: &mut Machine,
+    how: Stage,
+    parts: Loop<'a>,
+) -> Result<(), Halt>
+    ensures { (definitions : List Definition) (text : List Part) (input : List ℕ) → Turned definitions text input (work_after definitions text input (item.Edge (edge.Turned how parts.entry)) pending.old machine.old) pending.new machine.new result }
+{
+    match pending.flow {
+        Flow::Normal | Flow::Continued => {
+            pending.flow = Flow::Normal;
+            again(&mut pending.work, how, parts)?;
+            Ok(())
+        }
+        Flow::Broke => {
+            pending.flow = Flow::Normal;
+            Ok(())
+        }
+        Flow::Gave(_) => Ok(()),
+    }
+}

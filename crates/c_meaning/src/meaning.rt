@@ -1,0 +1,121 @@
+//! What a program means.
+
+ghost use Rattle.std.specs.Prelude.{◌≡◌, ℕ, List, Option, IfOk};
+ghost use Rattle.c_tree.specs.Syntax.{Part};
+ghost use Rattle.c_tree.specs.View.{parts};
+ghost use Rattle.c_layout.specs.Laid.{plan};
+ghost use Rattle.c_layout.specs.Outcome.{plan_of};
+ghost use Rattle.c_tree.specs.Declarators.{count_of};
+ghost use Rattle.c_tree.specs.Words.{signed};
+ghost use Rattle.c_meaning.specs.Answer.{meaning_of, Ends};
+ghost use Rattle.c_meaning.specs.Entries.{numbered};
+ghost use Rattle.c_meaning.specs.Eval.{Calls, enter};
+ghost use Rattle.c_meaning.specs.Machine.{store_of};
+ghost use Rattle.c_meaning.specs.Meaning.{definition, ended, main_name, meant, run_of, start};
+ghost use Rattle.c_meaning.specs.Names.{Definition};
+ghost use Rattle.c_meaning.specs.Nodes.{target_run};
+ghost use Rattle.c_meaning.specs.Pending.{given_by};
+ghost use Rattle.c_meaning.specs.Run.{Ended};
+ghost use Rattle.c_meaning.specs.Turned.{all_after};
+ghost use Rattle.c_meaning.specs.Routines.{definitions_of, AreRoutinesOf};
+
+use crate::flow::Flow;
+use crate::halt::Halt;
+use crate::machine::Machine;
+use crate::meant::Meant;
+use crate::node::Target;
+use crate::output::Output;
+use crate::pending::{Pending, Task, Work};
+use crate::resolving::{main_number, resolve_text};
+use crate::routine::Routine;
+use crate::starting::start_memory;
+use crate::turning::until_the_end;
+use bop_bits::STACK_TO;
+use c_layout::Layout;
+use c_tree::{Checked, OutOfMemory, Tree};
+use std::alloc::Global;
+
+/// A program before `main` starts.
+fn start(alloc: Global, tree: &Tree, layout: &Layout, steps: u64) -> Result<Machine, OutOfMemory>
+    requires { plan_of layout.now ≡ plan (parts tree.now) }
+    ensures store { IfOk result (λ machine. store_of machine ≡ start (parts tree.now)) }
+    ensures left { IfOk result (λ machine. machine.left ≡ steps) }
+{
+    Ok(Machine {
+        memory: start_memory(alloc, tree, layout)?,
+        sp: STACK_TO,
+        cursor: 0,
+        output: Output::new(alloc),
+        left: steps,
+    })
+}
+
+/// What a call of `main` names.
+fn target_of(main: Option<u32>) -> Target
+    ensures { (definitions : List Definition) (input : List ℕ) (calls : Calls) → target_run definitions input calls result ≡ enter calls (numbered definitions main) }
+{
+    match main {
+        Some(number) => Target::Function(number),
+        None => Target::Undefined,
+    }
+}
+
+/// What is to be done at first: `main` is called.
+fn call_main<'a>(alloc: Global, main: Option<u32>, steps: u64) -> Result<Pending<'a>, OutOfMemory>
+    ensures { IfOk result (λ pending. (text : List Part) → (input : List ℕ) → (machine : Machine) → store_of machine ≡ start text → machine.left ≡ steps → numbered (definitions_of text) main ≡ definition text main_name →
+        all_after (definitions_of text) text input pending machine ≡ run_of text input steps) }
+{
+    let target = target_of(main);
+    let mut work = Vec::new(alloc);
+    work.push(Work::Task(Task::Call(target, 0)))?;
+    Ok(Pending {
+        work,
+        values: Vec::new(alloc),
+        flow: Flow::Normal,
+        depth: steps,
+    })
+}
+
+/// The value that `main` gave.
+fn exit_of(flow: Flow) -> i32
+    ensures { result ≡ signed (count_of (given_by flow)) }
+{
+    match flow {
+        Flow::Gave(Some(value)) => value.cast_signed(),
+        _ => 0,
+    }
+}
+
+/// What a program means that has come to an end.
+fn meant_by(done: Result<(), Halt>, flow: Flow, machine: Machine) -> Result<Meant, OutOfMemory>
+    ensures { IfOk result (λ answer. (end : Ended (Option ℕ)) → Ends end flow machine done → meaning_of answer ≡ ended end) }
+{
+    let output = machine.output;
+    match done {
+        Ok(()) => Ok(Meant::Done(output, exit_of(flow))),
+        Err(Halt::StackFull) => Ok(Meant::StackFull(output)),
+        Err(Halt::More) => Ok(Meant::More(output)),
+        Err(Halt::Undefined(act, at)) => Ok(Meant::Undefined(output, act, at)),
+        Err(Halt::OutOfMemory) => Err(OutOfMemory),
+    }
+}
+
+/// Evaluates a program with an input within so many steps, by the meaning of C. It stops at the first act that is undefined, at a call that finds no room on the stack, and where no step is left.
+pub fn evaluate(
+    alloc: Global,
+    checked: &Checked,
+    layout: &Layout,
+    input: &[u8],
+    steps: u64,
+) -> Result<Meant, OutOfMemory>
+    requires { plan_of layout.now ≡ plan (parts checked.now.tree) }
+    ensures { IfOk result (λ answer. meaning_of answer ≡ meant (parts checked.now.tree) input.now steps) }
+{
+    let tree = checked.tree();
+    let routines = resolve_text(alloc, tree, layout)?;
+    let main = main_number(alloc, tree)?;
+    let mut machine = start(alloc, tree, layout, steps)?;
+    let mut pending = call_main(alloc, main, steps)?;
+    let done = until_the_end(&mut pending, &mut machine, &routines, input);
+    meant_by(done, pending.flow, machine)
+}

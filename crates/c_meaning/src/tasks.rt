@@ -1,0 +1,231 @@
+//! Tasks on values that are at hand.
+
+ghost use Rattle.std.specs.Prelude.{◌≡◌, ℕ, List, reverse};
+ghost use Rattle.c_tree.specs.Syntax.{Part};
+ghost use Rattle.c_meaning.specs.Eval.{first_of};
+ghost use Rattle.c_meaning.specs.Names.{Definition};
+ghost use Rattle.c_meaning.specs.Nodes.{converted_by};
+ghost use Rattle.c_meaning.specs.Pending.{below};
+ghost use Rattle.c_meaning.specs.Turned.{all_after, task_after, Turned};
+ghost use Rattle.c_meaning.specs.declared.flow.Flow.TheVariants.{Normal};
+ghost use Rattle.c_meaning.specs.declared.pending.Task.TheVariants as task;
+
+use crate::flow::Flow;
+use crate::halt::Halt;
+use crate::home::Home;
+use crate::kind::{Held, Operand};
+use crate::local::Local;
+use crate::machine::Machine;
+use crate::pending::Pending;
+use c_tree::{Binary, Place, Step, Unary};
+
+/// Takes the topmost value. Where there is none, it is 0.
+pub(crate) fn pop(values: &mut Vec<u32>) -> u32
+    ensures value { result ≡ first_of (reverse values.old.items) }
+    ensures left { reverse values.new.items ≡ below (reverse values.old.items) }
+{
+    values.pop().unwrap_or(0)
+}
+
+/// A value that is converted.
+pub(crate) fn converted(held: Held, value: u32) -> u32
+    ensures { result ≡ converted_by held value }
+{
+    match held {
+        Held::Byte => value % 256,
+        Held::Word => value,
+        Held::Array => value,
+    }
+}
+
+/// What an object holds at the address that is at hand.
+pub(crate) fn load(
+    pending: &mut Pending<'_>,
+    machine: &mut Machine,
+    held: Held,
+    at: Place,
+) -> Result<(), Halt>
+    requires { pending.old.flow ≡ Normal }
+    ensures { (definitions : List Definition) (text : List Part) (input : List ℕ) → Turned definitions text input (task_after definitions text input (task.Load held at) pending.old machine.old) pending.new machine.new result }
+{
+    let address = pop(&mut pending.values);
+    let value = machine.load(held, address, at)?;
+    pending.values.push(value)?;
+    Ok(())
+}
+
+pub(crate) fn count(pending: &mut Pending<'_>, machine: &mut Machine) -> Result<(), Halt>
+    requires { pending.old.flow ≡ Normal }
+    ensures { (definitions : List Definition) (text : List Part) (input : List ℕ) → Turned definitions text input (task_after definitions text input task.Count pending.old machine.old) pending.new machine.new result }
+{
+    machine.count()
+}
+
+pub(crate) fn convert(
+    pending: &mut Pending<'_>,
+    machine: &mut Machine,
+    held: Held,
+) -> Result<(), Halt>
+    requires { pending.old.flow ≡ Normal }
+    ensures { (definitions : List Definition) (text : List Part) (input : List ℕ) → Turned definitions text input (task_after definitions text input (task.Convert held) pending.old machine.old) pending.new machine.new result }
+{
+    let value = pop(&mut pending.values);
+    machine.count()?;
+    pending.values.push(converted(held, value))?;
+    Ok(())
+}
+
+/// The right operand of `&&` or `||` as a truth.
+pub(crate) fn truth(pending: &mut Pending<'_>, machine: &mut Machine) -> Result<(), Halt>
+    requires { pending.old.flow ≡ Normal }
+    ensures { (definitions : List Definition) (text : List Part) (input : List ℕ) → Turned definitions text input (task_after definitions text input task.Truth pending.old machine.old) pending.new machine.new result }
+{
+    let value = pop(&mut pending.values);
+    machine.count()?;
+    pending.values.push(u32::from(value != 0))?;
+    Ok(())
+}
+
+pub(crate) fn infix(
+    pending: &mut Pending<'_>,
+    machine: &mut Machine,
+    op: Binary,
+    c: Operand,
+    d: Operand,
+    at: Place,
+) -> Result<(), Halt>
+    requires { pending.old.flow ≡ Normal }
+    ensures { (definitions : List Definition) (text : List Part) (input : List ℕ) → Turned definitions text input (task_after definitions text input (task.Infix op c d at) pending.old machine.old) pending.new machine.new result }
+{
+    let right = pop(&mut pending.values);
+    let left = pop(&mut pending.values);
+    machine.count()?;
+    let value = machine.infix_act(op, c, d, left, right, at)?;
+    pending.values.push(value)?;
+    Ok(())
+}
+
+pub(crate) fn ignore(pending: &mut Pending<'_>, machine: &mut Machine)
+    requires { pending.old.flow ≡ Normal }
+    ensures { (definitions : List Definition) (text : List Part) (input : List ℕ) → task_after definitions text input task.Ignore pending.old machine.old ≡ all_after definitions text input pending.new machine.new }
+{
+    pop(&mut pending.values);
+}
+
+/// A local takes its first value.
+pub(crate) fn set(
+    pending: &mut Pending<'_>,
+    machine: &mut Machine,
+    local: Local,
+    held: Held,
+    at: Place,
+) -> Result<(), Halt>
+    requires { pending.old.flow ≡ Normal }
+    ensures { (definitions : List Definition) (text : List Part) (input : List ℕ) → Turned definitions text input (task_after definitions text input (task.Set local held at) pending.old machine.old) pending.new machine.new result }
+{
+    let value = pop(&mut pending.values);
+    let address = machine.in_frame(local.offset);
+    machine.store(held, address, value, at)?;
+    Ok(())
+}
+
+pub(crate) fn give(pending: &mut Pending<'_>, machine: &mut Machine, held: Held)
+    requires { pending.old.flow ≡ Normal }
+    ensures { (definitions : List Definition) (text : List Part) (input : List ℕ) → task_after definitions text input (task.Give held) pending.old machine.old ≡ all_after definitions text input pending.new machine.new }
+{
+    let value = pop(&mut pending.values);
+    pending.flow = Flow::Gave(Some(converted(held, value)));
+}
+
+pub(crate) fn prefix(
+    pending: &mut Pending<'_>,
+    machine: &mut Machine,
+    op: Unary,
+    c: Operand,
+    at: Place,
+) -> Result<(), Halt>
+    requires { pending.old.flow ≡ Normal }
+    ensures { (definitions : List Definition) (text : List Part) (input : List ℕ) → Turned definitions text input (task_after definitions text input (task.Prefix op c at) pending.old machine.old) pending.new machine.new result }
+{
+    let value = pop(&mut pending.values);
+    machine.count()?;
+    let value = machine.prefix_act(op, c, value, at)?;
+    pending.values.push(value)?;
+    Ok(())
+}
+
+pub(crate) fn step(
+    pending: &mut Pending<'_>,
+    machine: &mut Machine,
+    how: Step,
+    c: Operand,
+    held: Held,
+    own: Place,
+    at: Place,
+) -> Result<(), Halt>
+    requires { pending.old.flow ≡ Normal }
+    ensures { (definitions : List Definition) (text : List Part) (input : List ℕ) → Turned definitions text input (task_after definitions text input (task.Step how c held own at) pending.old machine.old) pending.new machine.new result }
+{
+    let address = pop(&mut pending.values);
+    machine.count()?;
+    let value = machine.stepped(how, c, held, own, at, address)?;
+    pending.values.push(value)?;
+    Ok(())
+}
+
+pub(crate) fn assign(
+    pending: &mut Pending<'_>,
+    machine: &mut Machine,
+    how: Option<Binary>,
+    c: Operand,
+    d: Operand,
+    held: Held,
+    own: Place,
+    at: Place,
+) -> Result<(), Halt>
+    requires { pending.old.flow ≡ Normal }
+    ensures { (definitions : List Definition) (text : List Part) (input : List ℕ) → Turned definitions text input (task_after definitions text input (task.Assign how c d held own at) pending.old machine.old) pending.new machine.new result }
+{
+    let value = pop(&mut pending.values);
+    let address = pop(&mut pending.values);
+    machine.count()?;
+    let value = machine.assigned(how, c, d, held, own, at, address, value)?;
+    pending.values.push(value)?;
+    Ok(())
+}
+
+pub(crate) fn constant(
+    pending: &mut Pending<'_>,
+    machine: &mut Machine,
+    value: u32,
+) -> Result<(), Halt>
+    requires { pending.old.flow ≡ Normal }
+    ensures { (definitions : List Definition) (text : List Part) (input : List ℕ) → Turned definitions text input (task_after definitions text input (task.Constant value) pending.old machine.old) pending.new machine.new result }
+{
+    machine.count()?;
+    pending.values.push(value)?;
+    Ok(())
+}
+
+pub(crate) fn zero(pending: &mut Pending<'_>, machine: &mut Machine) -> Result<(), Halt>
+    requires { pending.old.flow ≡ Normal }
+    ensures { (definitions : List Definition) (text : List Part) (input : List ℕ) → Turned definitions text input (task_after definitions text input (task.Zero) pending.old machine.old) pending.new machine.new result }
+{
+    pending.values.push(0)?;
+    Ok(())
+}
+
+/// The address of a variable.
+pub(crate) fn variable(
+    pending: &mut Pending<'_>,
+    machine: &mut Machine,
+    home: Home,
+) -> Result<(), Halt>
+    requires { pending.old.flow ≡ Normal }
+    ensures { (definitions : List Definition) (text : List Part) (input : List ℕ) → Turned definitions text input (task_after definitions text input (task.Variable home) pending.old machine.old) pending.new machine.new result }
+{
+    machine.count()?;
+    let address = machine.address(home)?;
+    pending.values.push(address)?;
+    Ok(())
+}

@@ -1,0 +1,5 @@
+//! The memory by tables.
+
+mod live;
+mod memory;
+mod starting;
