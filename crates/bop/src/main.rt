@@ -1,7 +1,7 @@
 // The program: the real ends, the top call, and the process's status.
 #![tactic(auto)]
 
-use bop_ends::{RealShelf, RealSink};
+use bop_ends::{RealShelf, RealSink, RealSource};
 use bop_top::{Status, bop_main};
 use std::process::ExitCode;
 use std::rt::Env;
@@ -14,9 +14,10 @@ fn main(rt: HostRuntime) -> ExitCode {
         Err(status) => return ExitCode::from(status.code()),
     };
     let mut shelf = RealShelf::new(&rt);
+    let mut input = RealSource::new(rt.stdin());
     let output = RealSink::new(io::writer(&rt));
     let mut report = RealSink::new(rt.stderr());
-    let (status, _output) = bop_main(alloc, &words, &mut shelf, output, &mut report);
+    let (status, _output) = bop_main(alloc, &words, &mut shelf, &mut input, output, &mut report);
     ExitCode::from(status.code())
 }
 

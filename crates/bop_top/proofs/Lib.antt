@@ -1,5 +1,6 @@
 pub mod Finish
 pub mod Loads
+pub mod Meanings
 pub mod Reports
 pub mod Requests
 pub mod Running

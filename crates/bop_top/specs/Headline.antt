@@ -1,6 +1,6 @@
 -- What the top call promises: a row for each status.
-use Rattle.std.specs.Prelude.{◌≡◌, ◌≤◌, ◌<◌, length, ℕ, ℤ, Bool, IsTrue, List, [], Option, Some}
-use Rattle.std.specs.Io.KnownBytes.{Appends}
+use Rattle.std.specs.Prelude.{◌≡◌, ◌≤◌, ◌<◌, length, ℕ, ℤ, Bool, IsTrue, List, [], Option, Some, None}
+use Rattle.std.specs.Io.KnownBytes.{Appends, Consumes, IsAtEnd}
 use Rattle.byte_lists.specs.Prefix.{IsPrefix}
 use Rattle.bop_ends.specs.Ends.{Rose, IsFront}
 use Rattle.rv_code.specs.declared.program.Program.{Program}
@@ -8,6 +8,10 @@ use Rattle.rv_code.specs.declared.stop.Stop.TheVariants.{Exit}
 use Rattle.rv_code.specs.State.{Machine, stop_of, output_of}
 use Rattle.rv_code.specs.Run.{seq}
 use Rattle.c_tree.specs.Syntax.{Part}
+use Rattle.c_tree.specs.Erase.{erased_text}
+use Rattle.c_meaning.specs.Meaning.{Meaning, meant}
+use Rattle.c_meaning.specs.Meaning as meaning
+use Rattle.c_meaning.specs.Outcome as told
 use Rattle.low_link.specs.Form.{IsForm}
 use Rattle.low_link.specs.Front.{IsAccepted, Fits, Refuses}
 use Rattle.low_link.specs.Refused.{IsRejection}
@@ -15,10 +19,11 @@ use Rattle.low_link.specs.Code.{IsProgramOf}
 use Rattle.low_link.specs.declared.refused.Refused.{Refused}
 use Rattle.low_link.specs.declared.refused.Refused.TheVariants as refused
 use Rattle.bop_top.specs.declared.status.Status.{Status}
-use Rattle.bop_top.specs.declared.status.Status.TheVariants.{Done, Fine, BadWords, LoadFault, ProgramTooLong, Rejected, WriteFault, ReportFault, OutOfMemory, NotYetBuilt}
+use Rattle.bop_top.specs.declared.status.Status.TheVariants.{Done, Fine, BadWords, LoadFault, ProgramTooLong, Rejected, ReadFault, InputTooLong, StackFull, Undefined, MoreSteps, WriteFault, ReportFault, OutOfMemory, NotYetBuilt}
+use Rattle.bop_top.specs.declared.input.TheConstants.{INPUT_BYTES}
 use Rattle.bop_top.specs.declared.top.TheConstants.{BUDGET, MOST_BYTES, TEXT_BYTES}
 use Rattle.bop_top.specs.Report.{Reported}
-use Rattle.bop_top.specs.Words.{Request, Seq, Check, IsRequest, name_of}
+use Rattle.bop_top.specs.Words.{Request, Seq, Check, Mean, IsRequest, AsksMean, name_of}
 
 -- P holds of the text that is loaded, the first bytes of the file, which is no longer than a text may be
 abbrev pub OfText : Option (List ℕ) → (List ℕ → Type 0) → Type 0
@@ -53,6 +58,11 @@ SeqSays BadWords file written = ⊥
 SeqSays ReportFault file written = ⊥
 SeqSays Fine file written = ⊥
 SeqSays (Rejected refused) file written = ⊥
+SeqSays ReadFault file written = ⊥
+SeqSays InputTooLong file written = ⊥
+SeqSays StackFull file written = ⊥
+SeqSays (Undefined act at) file written = ⊥
+SeqSays MoreSteps file written = ⊥
 
 -- the text is one of the language, and its objects fit into the memory
 abbrev pub IsFine : List ℕ → Type 0
@@ -70,25 +80,77 @@ CheckSays WriteFault file written = ⊥
 CheckSays NotYetBuilt file written = ⊥
 CheckSays BadWords file written = ⊥
 CheckSays ReportFault file written = ⊥
+CheckSays ReadFault file written = ⊥
+CheckSays InputTooLong file written = ⊥
+CheckSays StackFull file written = ⊥
+CheckSays (Undefined act at) file written = ⊥
+CheckSays MoreSteps file written = ⊥
+
+-- P holds of what the text means with this input within so many steps, where each marker is the empty statement
+abbrev pub Means : List ℕ → List ℕ → ℕ → (Meaning → Type 0) → Type 0
+Means text input steps P = (ps : List Part) × IsAccepted text ps × Fits ps × P (meant (erased_text ps) input steps)
+
+-- these bytes are the whole input, and nothing is left of it
+pub record IsInput (taken : List ℕ) (left : Option (List ℕ)) : Type 0 where
+  pub few : length taken ≤ INPUT_BYTES
+  pub end : IsAtEnd left
+
+-- P holds of what the file's text means with the whole input within so many steps
+abbrev pub Meant : ℕ → Option (List ℕ) → List ℕ → Option (List ℕ) → (Meaning → Type 0) → Type 0
+Meant steps file taken left P = OfText file (λ text. Means text taken steps P) × IsInput taken left
+
+-- what the status says of a meaning whose output was to be written, and of the bytes written
+abbrev pub Puts : Status → List ℕ → Meaning → Type 0
+Puts (Done exit) written m = m ≡ meaning.Done written exit
+Puts StackFull written m = m ≡ meaning.StackFull' written
+Puts (Undefined act at) written m = m ≡ meaning.Undefined' written act at
+Puts MoreSteps written m = m ≡ meaning.More' written
+Puts WriteFault written m = IsPrefix written (told.output_of m)
+Puts _ written m = ⊥
+
+-- what the status of a meaning says of the file, of the bytes taken from the input, of what is left there and of the bytes written
+abbrev pub MeanSays : ℕ → Status → Option (List ℕ) → List ℕ → Option (List ℕ) → List ℕ → Type 0
+MeanSays steps (Done exit) file taken left written = Meant steps file taken left (Puts (Done exit) written)
+MeanSays steps StackFull file taken left written = Meant steps file taken left (Puts StackFull written)
+MeanSays steps (Undefined act at) file taken left written = Meant steps file taken left (Puts (Undefined act at) written)
+MeanSays steps MoreSteps file taken left written = Meant steps file taken left (Puts MoreSteps written)
+MeanSays steps WriteFault file taken left written = Meant steps file taken left (Puts WriteFault written)
+MeanSays steps InputTooLong file taken left written = OfText file IsFine × (INPUT_BYTES < length taken) × (written ≡ [])
+MeanSays steps ReadFault file taken left written = OfText file IsFine × (written ≡ [])
+MeanSays steps OutOfMemory file taken left written = written ≡ []
+MeanSays steps (Rejected refused) file taken left written = CheckSays (Rejected refused) file written × (taken ≡ [])
+MeanSays steps ProgramTooLong file taken left written = CheckSays ProgramTooLong file written × (taken ≡ [])
+MeanSays steps LoadFault file taken left written = CheckSays LoadFault file written × (taken ≡ [])
+MeanSays steps Fine file taken left written = ⊥
+MeanSays steps NotYetBuilt file taken left written = ⊥
+MeanSays steps BadWords file taken left written = ⊥
+MeanSays steps ReportFault file taken left written = ⊥
 
 -- what the status with which a command has ended says of them
-abbrev pub Says : Request → Status → Option (List ℕ) → List ℕ → Type 0
-Says (Seq name) status file written = SeqSays status file written
-Says (Check name) status file written = CheckSays status file written
+abbrev pub Says : Request → Status → Option (List ℕ) → List ℕ → Option (List ℕ) → List ℕ → Type 0
+Says (Seq name) status file taken left written = SeqSays status file written × (taken ≡ [])
+Says (Check name) status file taken left written = CheckSays status file written × (taken ≡ [])
+Says (Mean name steps) status file taken left written = MeanSays steps status file taken left written
 
 -- how often the ends of a command have failed
 pub record Faults : Type 0 where
   pub shelf : ℕ
+  pub input : ℕ
   pub output : ℕ
 
 -- what the status says of the faults before the call and after it: the one that it names rose, and the others stand
 abbrev pub Counts : Status → Faults → Faults → Type 0
 Counts LoadFault old new = Rose old.shelf new.shelf × (new ≡ record old { shelf = new.shelf })
+Counts ReadFault old new = Rose old.input new.input × (new ≡ record old { input = new.input })
 Counts WriteFault old new = Rose old.output new.output × (new ≡ record old { output = new.output })
 Counts (Done exit) old new = new ≡ old
 Counts Fine old new = new ≡ old
 Counts ProgramTooLong old new = new ≡ old
 Counts (Rejected refused) old new = new ≡ old
+Counts InputTooLong old new = new ≡ old
+Counts StackFull old new = new ≡ old
+Counts (Undefined act at) old new = new ≡ old
+Counts MoreSteps old new = new ≡ old
 Counts NotYetBuilt old new = new ≡ old
 Counts OutOfMemory old new = new ≡ old
 Counts BadWords old new = new ≡ old
@@ -101,24 +163,86 @@ IsUnloaded OutOfMemory told file = Unit {0}
 IsUnloaded ProgramTooLong told file = told → IsTooLong file
 IsUnloaded _ told file = ⊥
 
+-- why the input was not read to its end, of which these bytes were taken
+abbrev pub IsUnread : Status → List ℕ → Type 0
+IsUnread ReadFault taken = Unit {0}
+IsUnread OutOfMemory taken = Unit {0}
+IsUnread InputTooLong taken = INPUT_BYTES < length taken
+IsUnread _ taken = ⊥
+
+-- why a text has no meaning of which the call could tell, where these bytes of the input were taken
+abbrev pub IsUnmeant : Status → List ℕ → List ℕ → Type 0
+IsUnmeant (Rejected refused) text taken = Refuses text refused × IsRejection refused × (taken ≡ [])
+IsUnmeant InputTooLong text taken = IsFine text × (INPUT_BYTES < length taken)
+IsUnmeant ReadFault text taken = IsFine text
+IsUnmeant OutOfMemory text taken = Unit {0}
+IsUnmeant _ text taken = ⊥
+
+-- how a command ends whose text has this meaning
+abbrev pub meaning_status : Meaning → Status
+meaning_status (meaning.Done output exit) = Done exit
+meaning_status (meaning.StackFull' output) = StackFull
+meaning_status (meaning.More' output) = MoreSteps
+meaning_status (meaning.Undefined' output act at) = Undefined act at
+
 -- how a command ends whose text is refused
 abbrev pub refused_status : Refused → Status
 refused_status refused.OutOfMemory = OutOfMemory
 refused_status other = Rejected other
 
--- the ends at one moment: what the shelf, the output and the report tell, and how often each has failed
+-- the ends of a command at one moment: what the shelf, the input and the output tell, and how often each has failed
 pub record Ends : Type 0 where
   pub tells : Bool
   pub file : List ℕ → Option (List ℕ)
+  pub input : Option (List ℕ)
   pub output : Option (List ℕ)
-  pub report : Option (List ℕ)
   pub faults : Faults
-  pub report_faults : ℕ
+
+-- the number of bytes that is reported of a meaning with this status, which has written so many
+abbrev pub count_told : Status → ℕ → Option ℕ
+count_told (Done exit) count = Some count
+count_told StackFull count = Some count
+count_told (Undefined act at) count = Some count
+count_told MoreSteps count = Some count
+count_told WriteFault count = Some 0
+count_told _ count = None
+
+-- the output of a meaning was handed to a sink
+pub record HasPut (m : Meaning) (status : Status) (bytes : Option ℕ) (old new : Option (List ℕ)) : Type 0 where
+  pub written : List ℕ
+  pub writes : Appends old new written
+  pub puts : Puts status written m
+  pub counted : bytes ≡ count_told status (length written)
+
+-- a text was evaluated, which is the text of each file of which P holds
+pub record HasMeant (steps : ℕ) (P : Option (List ℕ) → Type 0) (status : Status) (bytes : Option ℕ) (input left old new : Option (List ℕ)) : Type 0 where
+  pub taken : List ℕ
+  pub written : List ℕ
+  pub takes : Consumes input left taken
+  pub writes : Appends old new written
+  pub says : (file : Option (List ℕ)) → P file → MeanSays steps status file taken left written
+  pub counted : bytes ≡ count_told status (length written)
+
+-- what a command has done that ends with this status: which bytes it took and wrote, and how many it reports
+pub record Ended (words : List (List ℕ)) (old new : Ends) (status : Status) (bytes : Option ℕ) : Type 0 where
+  pub taken : List ℕ
+  pub written : List ℕ
+  pub takes : Consumes old.input new.input taken
+  pub writes : Appends old.output new.output written
+  pub says : IsTrue old.tells → (request : Request) → IsRequest words request
+      → Says request status (old.file (name_of request)) taken new.input written
+  pub counts : Counts status old.faults new.faults
+  pub counted : AsksMean words → bytes ≡ count_told status (length written)
+  pub uncounted : (AsksMean words → ⊥) → bytes ≡ None
+
+-- the report at one moment
+pub record Reporting : Type 0 where
+  pub content : Option (List ℕ)
+  pub faults : ℕ
 
 -- the course of a call: a command ends with the inner status, which is then reported
-pub record Course (words : List (List ℕ)) (old new : Ends) (final : Status) : Type 0 where
+pub record Course (words : List (List ℕ)) (old new : Ends) (before after : Reporting) (final : Status) : Type 0 where
   pub inner : Status
-  pub says : IsTrue old.tells → (request : Request) → IsRequest words request
-      → (written : List ℕ) × Appends old.output new.output written × Says request inner (old.file (name_of request)) written
-  pub counts : Counts inner old.faults new.faults
-  pub reported : Reported inner final old.report new.report old.report_faults new.report_faults
+  pub bytes : Option ℕ
+  pub command : Ended words old new inner bytes
+  pub reported : Reported inner final bytes before.content after.content before.faults after.faults

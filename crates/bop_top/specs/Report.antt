@@ -1,5 +1,5 @@
--- The report: one line about how a command has ended, and what becomes of it.
-use Rattle.std.specs.Prelude.{◌≡◌, ℕ, List, ◌++◌, codes, Bool, true, false, if◌then◌else◌, Option, ◌⊎◌}
+-- The report: a line about how a command has ended, for a meaning one about the bytes written, and what becomes of them.
+use Rattle.std.specs.Prelude.{◌≡◌, ℕ, List, [], ◌++◌, codes, Bool, true, false, if◌then◌else◌, Option, Some, None, ◌⊎◌}
 use Rattle.std.specs.Fmt.{decimal, signed_decimal}
 use Rattle.std.specs.Io.KnownBytes.{Appends}
 use Rattle.byte_lists.specs.Content.{AppendsPrefix}
@@ -15,10 +15,12 @@ use Rattle.c_layout.specs.declared.fault.LayoutFault.TheVariants as layout
 use Rattle.c_token.specs.declared.fault.TokenFault.{TokenFault}
 use Rattle.c_token.specs.declared.fault.TokenFault.TheVariants as token
 use Rattle.c_tree.specs.declared.place.Place.{Place}
+use Rattle.c_tree.specs.declared.undefined.Undefined.{Undefined as Act}
+use Rattle.c_tree.specs.declared.undefined.Undefined.TheVariants as act
 use Rattle.low_link.specs.declared.refused.Refused.{Refused}
 use Rattle.low_link.specs.declared.refused.Refused.TheVariants as refused
 use Rattle.bop_top.specs.declared.status.Status.{Status}
-use Rattle.bop_top.specs.declared.status.Status.TheVariants.{Done, Fine, BadWords, LoadFault, ProgramTooLong, Rejected, WriteFault, ReportFault, OutOfMemory, NotYetBuilt}
+use Rattle.bop_top.specs.declared.status.Status.TheVariants.{Done, Fine, BadWords, LoadFault, ProgramTooLong, Rejected, ReadFault, InputTooLong, StackFull, Undefined, MoreSteps, WriteFault, ReportFault, OutOfMemory, NotYetBuilt}
 
 -- a place behind the name of what stands there
 abbrev pub placed : List ℕ → Place → List ℕ
@@ -64,6 +66,15 @@ rejection (refused.Layout fault) = layout_text fault
 rejection refused.NotYetBuilt = codes "not-yet-built"
 rejection refused.OutOfMemory = codes "out-of-memory"
 
+abbrev pub act_text : Act → List ℕ
+act_text act.Overflow = codes "overflow"
+act_text act.Divide = codes "divide"
+act_text act.Shift = codes "shift"
+act_text act.Access = codes "access"
+act_text act.Indeterminate = codes "indeterminate"
+act_text act.Pointer = codes "pointer"
+act_text act.NoValue = codes "no-value"
+
 -- the text of a status (no command ends with ReportFault, so its text is never reported)
 abbrev pub text_of : Status → List ℕ
 text_of (Done exit) = codes "done " ++ signed_decimal exit
@@ -72,6 +83,11 @@ text_of BadWords = codes "bad-words"
 text_of LoadFault = codes "load-fault"
 text_of ProgramTooLong = codes "program-too-long"
 text_of (Rejected refused) = codes "rejected " ++ rejection refused
+text_of ReadFault = codes "read-fault"
+text_of InputTooLong = codes "input-too-long"
+text_of StackFull = codes "stack-full"
+text_of (Undefined act at) = codes "undefined " ++ placed (act_text act) at
+text_of MoreSteps = codes "more-steps"
 text_of WriteFault = codes "write-fault"
 text_of ReportFault = codes "report-fault"
 text_of OutOfMemory = codes "out-of-memory"
@@ -81,6 +97,15 @@ text_of NotYetBuilt = codes "not-yet-built"
 abbrev pub line : Status → List ℕ
 line status = codes "status " ++ text_of status ++ codes "\n"
 
+-- the line that reports how many bytes were written, where that is told
+abbrev pub bytes_line : Option ℕ → List ℕ
+bytes_line None = []
+bytes_line (Some count) = codes "bytes " ++ decimal count ++ codes "\n"
+
+-- the whole report
+abbrev pub report_of : Status → Option ℕ → List ℕ
+report_of status bytes = line status ++ bytes_line bytes
+
 -- what was asked for was answered
 abbrev pub is_answer : Status → Bool
 is_answer (Done exit) = true
@@ -89,6 +114,11 @@ is_answer BadWords = false
 is_answer LoadFault = false
 is_answer ProgramTooLong = false
 is_answer (Rejected refused) = false
+is_answer ReadFault = false
+is_answer InputTooLong = false
+is_answer StackFull = true
+is_answer (Undefined act at) = true
+is_answer MoreSteps = true
 is_answer WriteFault = false
 is_answer ReportFault = false
 is_answer OutOfMemory = false
@@ -98,18 +128,18 @@ is_answer NotYetBuilt = false
 abbrev pub unreported : Status → Status
 unreported inner = if is_answer inner then ReportFault else inner
 
--- the whole line was appended
-pub record HasReported (inner final : Status) (old new : Option (List ℕ)) (before now : ℕ) : Type 0 where
+-- the whole report was appended
+pub record HasReported (inner final : Status) (bytes : Option ℕ) (old new : Option (List ℕ)) (before now : ℕ) : Type 0 where
   pub same : final ≡ inner
-  pub whole : Appends old new (line inner)
+  pub whole : Appends old new (report_of inner bytes)
   pub stands : now ≡ before
 
--- the report failed at some front of the line
-pub record HasFailed (inner final : Status) (old new : Option (List ℕ)) (before now : ℕ) : Type 0 where
+-- it failed at some front
+pub record HasFailed (inner final : Status) (bytes : Option ℕ) (old new : Option (List ℕ)) (before now : ℕ) : Type 0 where
   pub same : final ≡ unreported inner
-  pub front : AppendsPrefix old new (line inner)
+  pub front : AppendsPrefix old new (report_of inner bytes)
   pub rose : Rose before now
 
 -- the end of a call whose command has ended with this status, by what the report held and counted
-abbrev pub Reported : Status → Status → Option (List ℕ) → Option (List ℕ) → ℕ → ℕ → Type 0
-Reported inner final old new before now = HasReported inner final old new before now ⊎ HasFailed inner final old new before now
+abbrev pub Reported : Status → Status → Option ℕ → Option (List ℕ) → Option (List ℕ) → ℕ → ℕ → Type 0
+Reported inner final bytes old new before now = HasReported inner final bytes old new before now ⊎ HasFailed inner final bytes old new before now

@@ -1,7 +1,10 @@
 //! The call that the program makes: what its words ask for is done over the ends that it is handed.
 #![tactic(auto)]
 
+mod ending;
+mod input;
 mod machine;
+mod meaning;
 mod piece;
 mod report;
 mod run;

@@ -1,7 +1,7 @@
-// The report: one line about how a command has ended.
+// The report: a line about how a command has ended, and for a meaning one about the bytes written.
 ghost use Rattle.std.specs.Prelude.{◌≡◌, ◌≤◌, ◌<◌, ◌+◌, ◌++◌, length};
 ghost use Rattle.arrayvec.specs.ArrayString.{array_string_len};
-ghost use Rattle.bop_top.specs.Report.{Reported, line as line_of, text_of, placed, kind_text, rejection, unreported as unreported_of};
+ghost use Rattle.bop_top.specs.Report.{Reported, report_of, bytes_line, text_of, act_text, placed, kind_text, rejection, unreported as unreported_of};
 
 use crate::Status;
 use arrayvec::ArrayString;
@@ -10,18 +10,22 @@ use c_check::{CheckFault, CheckKind};
 use c_expr::ParseFault;
 use c_layout::LayoutFault;
 use c_token::TokenFault;
-use c_tree::Place;
+use c_tree::{Place, Undefined};
 use itoa::Buffer;
 use low_link::Refused;
 
-/// How many bytes a line has at most.
+/// How many bytes the line about the status has at most.
 pub const LINE_BYTES: usize = 128;
 
-/// Reports how a command has ended. Answers how the whole call ends.
-pub fn report_status<R: Sink>(inner: Status, report: &mut R) -> Status
-    ensures { Reported inner result (R.content report.old) (R.content report.new) (R.faults report.old) (R.faults report.new) }
+/// How many bytes a report has at most.
+pub const REPORT_BYTES: usize = 160;
+
+/// Reports how a command has ended, and how many bytes it has written where that is told. Answers
+/// how the whole call ends.
+pub fn report_status<R: Sink>(inner: Status, bytes: Option<u64>, report: &mut R) -> Status
+    ensures { Reported inner result bytes (R.content report.old) (R.content report.new) (R.faults report.old) (R.faults report.new) }
 {
-    match report.append(line(inner).as_str().as_bytes()) {
+    match report.append(text(inner, bytes).as_str().as_bytes()) {
         Ok(()) => inner,
         Err(Failed) => unreported(inner),
     }
@@ -34,23 +38,39 @@ fn unreported(inner: Status) -> Status
     match inner {
         Status::Done(_) => Status::ReportFault,
         Status::Fine => Status::ReportFault,
+        Status::StackFull => Status::ReportFault,
+        Status::Undefined(_, _) => Status::ReportFault,
+        Status::MoreSteps => Status::ReportFault,
         other => other,
     }
 }
 
-// The line of a status. It takes no memory.
-fn line(status: Status) -> ArrayString<LINE_BYTES>
-    ensures { result.bytes ≡ line_of status }
+// The text of a report. It takes no memory.
+fn text(status: Status, bytes: Option<u64>) -> ArrayString<REPORT_BYTES>
+    ensures { result.bytes ≡ report_of status bytes }
 {
-    let mut line = ArrayString::new();
-    line.push_str("status ");
-    push_text(&mut line, status);
-    line.push_str("\n");
-    line
+    let mut text = ArrayString::new();
+    text.push_str("status ");
+    push_text(&mut text, status);
+    text.push_str("\n");
+    push_bytes(&mut text, bytes);
+    text
+}
+
+// Adds the line about the bytes written.
+fn push_bytes(text: &mut ArrayString<REPORT_BYTES>, bytes: Option<u64>)
+    requires { array_string_len text.old ≤ LINE_BYTES }
+    ensures { text.new.bytes ≡ text.old.bytes ++ bytes_line bytes }
+{
+    if let Some(count) = bytes {
+        text.push_str("bytes ");
+        text.push_str(Buffer::new().format(count));
+        text.push_str("\n");
+    }
 }
 
 // Adds the text of a status.
-fn push_text(line: &mut ArrayString<LINE_BYTES>, status: Status)
+fn push_text(line: &mut ArrayString<REPORT_BYTES>, status: Status)
     requires { array_string_len line.old ≤ 8 }
     ensures text { line.new.bytes ≡ line.old.bytes ++ text_of status }
     ensures room { array_string_len line.new < LINE_BYTES }
@@ -68,6 +88,14 @@ fn push_text(line: &mut ArrayString<LINE_BYTES>, status: Status)
             line.push_str("rejected ");
             push_rejection(line, refused);
         }
+        Status::ReadFault => line.push_str("read-fault"),
+        Status::InputTooLong => line.push_str("input-too-long"),
+        Status::StackFull => line.push_str("stack-full"),
+        Status::Undefined(act, at) => {
+            line.push_str("undefined ");
+            push_placed(line, act_name(act), at);
+        }
+        Status::MoreSteps => line.push_str("more-steps"),
         Status::WriteFault => line.push_str("write-fault"),
         Status::ReportFault => line.push_str("report-fault"),
         Status::OutOfMemory => line.push_str("out-of-memory"),
@@ -76,7 +104,7 @@ fn push_text(line: &mut ArrayString<LINE_BYTES>, status: Status)
 }
 
 // Adds a place behind the name of what stands there.
-fn push_placed(line: &mut ArrayString<LINE_BYTES>, name: &str, at: Place)
+fn push_placed(line: &mut ArrayString<REPORT_BYTES>, name: &str, at: Place)
     requires { array_string_len line.old + length name.now ≤ 64 }
     ensures text { line.new.bytes ≡ line.old.bytes ++ placed name.now at }
     ensures room { array_string_len line.new < LINE_BYTES }
@@ -103,8 +131,23 @@ fn kind_name(kind: CheckKind) -> &'static str
     }
 }
 
+fn act_name(act: Undefined) -> &'static str
+    ensures name { result.now ≡ act_text act }
+    ensures short { length result.now ≤ 13 }
+{
+    match act {
+        Undefined::Overflow => "overflow",
+        Undefined::Divide => "divide",
+        Undefined::Shift => "shift",
+        Undefined::Access => "access",
+        Undefined::Indeterminate => "indeterminate",
+        Undefined::Pointer => "pointer",
+        Undefined::NoValue => "no-value",
+    }
+}
+
 // Adds why a text is rejected.
-fn push_rejection(line: &mut ArrayString<LINE_BYTES>, refused: Refused)
+fn push_rejection(line: &mut ArrayString<REPORT_BYTES>, refused: Refused)
     requires { array_string_len line.old ≤ 20 }
     ensures text { line.new.bytes ≡ line.old.bytes ++ rejection refused }
     ensures room { array_string_len line.new < LINE_BYTES }

@@ -1,11 +1,13 @@
+mod acts;
 mod checks;
+mod meanings;
 
 use super::*;
 use crate::report::report_status;
-use bop_ends::{MemShelf, MemSink};
+use bop_ends::{MemShelf, MemSink, MemSource};
 use c_check::{CheckFault, CheckKind};
 use c_layout::LayoutFault;
-use c_tree::Place;
+use c_tree::{Place, Undefined};
 use low_link::Refused;
 use std::alloc::Global;
 use std::collections::BTreeMap;
@@ -13,10 +15,11 @@ use std::test::Fail;
 
 const GREETING: &str = "int main(void){putchar('A');return 0;}";
 
-// How a call has ended, and what it has left in its sinks.
+// How a call has ended, and what it has left in its source and its sinks.
 #[derive(Drop)]
 struct Ended {
     status: Status,
+    input: MemSource,
     output: MemSink,
     report: MemSink,
 }
@@ -33,16 +36,34 @@ fn shelf_with(alloc: Global, text: &str) -> Result<MemShelf, Fail> {
 
 // A sink that fails as planned.
 fn sink_with(alloc: Global, fails: &[(u64, usize)]) -> Result<MemSink, Fail> {
-    let sink = MemSink::new(alloc, 2000, fails.to_vec(alloc)?);
+    let sink = MemSink::new(alloc, 10_000, fails.to_vec(alloc)?);
     Ok(sink.ok().ok_or("no memory for a sink")?)
 }
 
-// What the words ask for, over a shelf with this text, and an output and a report that fail as
-// planned.
+// A source of these bytes, which gives three at once and fails as planned.
+fn source_with(alloc: Global, bytes: &[u8], fails: &[u64]) -> Result<MemSource, Fail> {
+    Ok(MemSource::new(bytes.to_vec(alloc)?, 3, fails.to_vec(alloc)?))
+}
+
+// What the words ask for, over a shelf with this text, no input, and an output and a report that
+// fail as planned.
 fn call(
     alloc: Global,
     words: &[&str],
     text: &str,
+    output_fails: &[(u64, usize)],
+    report_fails: &[(u64, usize)],
+) -> Result<Ended, Fail> {
+    let input = source_with(alloc, b"", &[])?;
+    call_with(alloc, words, text, input, output_fails, report_fails)
+}
+
+// What they ask for with this input.
+fn call_with(
+    alloc: Global,
+    words: &[&str],
+    text: &str,
+    input: MemSource,
     output_fails: &[(u64, usize)],
     report_fails: &[(u64, usize)],
 ) -> Result<Ended, Fail> {
@@ -51,11 +72,13 @@ fn call(
         owned.push(String::from_str(alloc, word)?)?;
     }
     let mut shelf = shelf_with(alloc, text)?;
+    let mut input = input;
     let output = sink_with(alloc, output_fails)?;
     let mut report = sink_with(alloc, report_fails)?;
-    let (status, output) = bop_main(alloc, &owned, &mut shelf, output, &mut report);
+    let (status, output) = bop_main(alloc, &owned, &mut shelf, &mut input, output, &mut report);
     Ok(Ended {
         status,
+        input,
         output,
         report,
     })
@@ -224,7 +247,8 @@ fn each_status_has_its_code_and_its_line(rt: HostRuntime) -> Result<(), Fail> {
     let breach = CheckFault::Breach(CheckKind::Marker, place);
     let rejected = Status::Rejected(Refused::Check(breach));
     let too_large = Status::Rejected(Refused::Layout(LayoutFault::DataTooLarge));
-    let rows: [(Status, u8, &str, bool); 13] = [
+    let divided = Status::Undefined(Undefined::Divide, place);
+    let rows: [(Status, u8, &str, bool); 18] = [
         (Status::Done(0), 0, "done 0", true),
         (Status::Done(-1), 0, "done -1", true),
         (Status::Done(2147483647), 0, "done 2147483647", true),
@@ -235,6 +259,11 @@ fn each_status_has_its_code_and_its_line(rt: HostRuntime) -> Result<(), Fail> {
         (Status::ProgramTooLong, 4, "program-too-long", false),
         (rejected, 5, "rejected marker 2 13", false),
         (too_large, 5, "rejected data-too-large", false),
+        (Status::ReadFault, 7, "read-fault", false),
+        (Status::InputTooLong, 8, "input-too-long", false),
+        (Status::StackFull, 11, "stack-full", true),
+        (divided, 12, "undefined divide 2 13", true),
+        (Status::MoreSteps, 13, "more-steps", true),
         (Status::WriteFault, 14, "write-fault", false),
         (Status::OutOfMemory, 18, "out-of-memory", false),
         (Status::NotYetBuilt, 19, "not-yet-built", false),
@@ -248,13 +277,54 @@ fn each_status_has_its_code_and_its_line(rt: HostRuntime) -> Result<(), Fail> {
         let line = format!(in alloc; "status {said}\n")?;
         let mut report = sink_with(alloc, &[])?;
         assert_eq!(rt; status.code(), code, "{said}");
-        assert_eq!(rt; report_status(status, &mut report), status, "{said}");
+        assert_eq!(rt; report_status(status, None, &mut report), status, "{said}");
         assert_eq!(rt; report.content(), line.as_bytes(), "{said}");
 
         let mut report = sink_with(alloc, &[(0, 3)])?;
-        assert_eq!(rt; report_status(status, &mut report), unreported, "{said}");
+        assert_eq!(rt;
+            report_status(status, None, &mut report),
+            unreported,
+            "{said}"
+        );
         assert_eq!(rt; report.content(), b"sta".as_slice(), "{said}");
     }
     assert_eq!(rt; Status::ReportFault.code(), 15);
+    Ok(())
+}
+
+#[test]
+fn the_bytes_of_a_meaning_are_a_line(rt: HostRuntime) -> Result<(), Fail> {
+    let alloc = rt.alloc();
+    let place = Place {
+        line: 4294967295,
+        column: 4294967295,
+    };
+    let acts: [(Undefined, &str); 7] = [
+        (Undefined::Overflow, "overflow"),
+        (Undefined::Divide, "divide"),
+        (Undefined::Shift, "shift"),
+        (Undefined::Access, "access"),
+        (Undefined::Indeterminate, "indeterminate"),
+        (Undefined::Pointer, "pointer"),
+        (Undefined::NoValue, "no-value"),
+    ];
+    for (act, said) in acts {
+        let text = format!(in alloc;
+            "status undefined {said} 4294967295 4294967295\nbytes 18446744073709551615\n"
+        )?;
+        let status = Status::Undefined(act, place);
+        let mut report = sink_with(alloc, &[])?;
+        assert_eq!(rt; report_status(status, Some(u64::MAX), &mut report), status);
+        assert_eq!(rt; report.content(), text.as_bytes());
+
+        let mut report = sink_with(alloc, &[(0, 50)])?;
+        let unreported = Status::ReportFault;
+        assert_eq!(rt;
+            report_status(status, Some(u64::MAX), &mut report),
+            unreported
+        );
+        let front = text.as_bytes().get(..50).ok_or("a front of the report")?;
+        assert_eq!(rt; report.content(), front);
+    }
     Ok(())
 }

@@ -1,22 +1,24 @@
 // The top call.
 ghost use Rattle.std.specs.Prelude.{◌≡◌, ◌↔◌, ◌≤◌, [], length, IfOk, OnOk, IfErr, List, ℕ, ℤ, Some, Option, map, string_bytes, IsTrue};
 ghost use Rattle.std.specs.Io.KnownBytes.{Appends, Keeps};
-ghost use Rattle.bop_top.specs.Words.{Request, IsRequest, name_of};
-ghost use Rattle.bop_top.specs.Headline.{Course, Says, SeqSays, CheckSays, Counts, IsUnloaded, refused_status};
+ghost use Rattle.bop_top.specs.Words.{Request, IsRequest, AsksMean};
+ghost use Rattle.bop_top.specs.Headline.{Course, Ended, HasMeant, SeqSays, CheckSays, Counts, IsUnloaded, refused_status};
 ghost use Rattle.bop_top.specs.declared.status.Status.TheVariants.{BadWords};
 ghost use Rattle.bop_ends.specs.Ends.{IsFront};
 
 use crate::Status;
+use crate::ending::Ending;
 use crate::machine::Machine;
+use crate::meaning::mean_text;
 use crate::report::report_status;
 use crate::run::run;
 use crate::words::{Command, command_of};
-use bop_ends::{LoadFault, Shelf, Sink};
+use bop_ends::{LoadFault, Shelf, Sink, Source};
 use low_link::{Refused, compile, front};
 use rv_code::Stop;
 use std::alloc::Global;
 
-/// How many steps a run takes at most.
+/// How many steps a run takes at most, where the words don't say.
 pub const BUDGET: u64 = 1_000_000_000;
 
 /// How many bytes a text has at most.
@@ -28,12 +30,15 @@ pub const MOST_BYTES: usize = 1_048_577;
 /// Does what the words ask for, reports how that has ended, and hands the output back.
 ///
 /// The words are those behind the program's name: `seq PROG` compiles the text in the file PROG
-/// and runs it on the machine, and `check PROG` says whether it is a text of the language. What the
-/// program puts goes to the output, and one line about the status to the report.
-pub fn bop_main<K: Sink, R: Sink, H: Shelf>(
+/// and runs it on the machine, `check PROG` says whether it is a text of the language, and
+/// `mean PROG`, behind which `--budget N` may stand, reads the input and evaluates the text by the
+/// definition of its meaning. What the program puts goes to the output, and the report has a line
+/// about the status, for `mean` also one about the bytes written.
+pub fn bop_main<S: Source, K: Sink, R: Sink, H: Shelf>(
     alloc: Global,
     words: &[String],
     shelf: &mut H,
+    input: &mut S,
     output: K,
     report: &mut R,
 ) -> (Status, K)
@@ -41,52 +46,68 @@ pub fn bop_main<K: Sink, R: Sink, H: Shelf>(
         (record {
           tells = H.tells shelf.old;
           file = H.file shelf.old;
+          input = S.left input.old;
           output = K.content output;
-          report = R.content report.old;
-          faults = record { shelf = H.faults shelf.old; output = K.faults output };
-          report_faults = R.faults report.old;
+          faults = record { shelf = H.faults shelf.old; input = S.faults input.old; output = K.faults output };
         })
         (record {
           tells = H.tells shelf.new;
           file = H.file shelf.new;
+          input = S.left input.new;
           output = K.content result.1;
-          report = R.content report.new;
-          faults = record { shelf = H.faults shelf.new; output = K.faults result.1 };
-          report_faults = R.faults report.new;
+          faults = record { shelf = H.faults shelf.new; input = S.faults input.new; output = K.faults result.1 };
         })
+        (record { content = R.content report.old; faults = R.faults report.old })
+        (record { content = R.content report.new; faults = R.faults report.new })
         result.0 }
     ensures bad_words { (result.0 ≡ BadWords) ↔ ((request : Request) → IsRequest (map string_bytes words.now) request → ⊥) }
     ensures nothing { result.0 ≡ BadWords → Keeps (K.content output) (K.content result.1) }
+    ensures unread { (AsksMean (map string_bytes words.now) → ⊥)
+        → (S.left input.new ≡ S.left input.old) × (S.faults input.new ≡ S.faults input.old) }
     ensures tells { H.tells shelf.new ≡ H.tells shelf.old }
     ensures files { H.file shelf.new ≡ H.file shelf.old }
 {
     let mut output = output;
-    let inner = command(alloc, words, shelf, &mut output);
-    (report_status(inner, report), output)
+    let ending = command(alloc, words, shelf, input, &mut output);
+    (report_status(ending.status, ending.bytes, report), output)
 }
 
 // Does what the words ask for.
-fn command<K: Sink, H: Shelf>(
+fn command<S: Source, K: Sink, H: Shelf>(
     alloc: Global,
     words: &[String],
     shelf: &mut H,
+    input: &mut S,
     output: &mut K,
-) -> Status
-    ensures says { IsTrue (H.tells shelf.old) → (request : Request) → IsRequest (map string_bytes words.now) request
-        → (written : List ℕ) × Appends (K.content output.old) (K.content output.new) written
-        × Says request result (H.file shelf.old (name_of request)) written }
-    ensures bad_words { (result ≡ BadWords) ↔ ((request : Request) → IsRequest (map string_bytes words.now) request → ⊥) }
-    ensures nothing { result ≡ BadWords → Keeps (K.content output.old) (K.content output.new) }
-    ensures counts { Counts result
-        (record { shelf = H.faults shelf.old; output = K.faults output.old })
-        (record { shelf = H.faults shelf.new; output = K.faults output.new }) }
+) -> Ending
+    ensures ended { Ended (map string_bytes words.now)
+        (record {
+          tells = H.tells shelf.old;
+          file = H.file shelf.old;
+          input = S.left input.old;
+          output = K.content output.old;
+          faults = record { shelf = H.faults shelf.old; input = S.faults input.old; output = K.faults output.old };
+        })
+        (record {
+          tells = H.tells shelf.new;
+          file = H.file shelf.new;
+          input = S.left input.new;
+          output = K.content output.new;
+          faults = record { shelf = H.faults shelf.new; input = S.faults input.new; output = K.faults output.new };
+        })
+        result.status result.bytes }
+    ensures bad_words { (result.status ≡ BadWords) ↔ ((request : Request) → IsRequest (map string_bytes words.now) request → ⊥) }
+    ensures nothing { result.status ≡ BadWords → Keeps (K.content output.old) (K.content output.new) }
+    ensures unread { (AsksMean (map string_bytes words.now) → ⊥)
+        → (S.left input.new ≡ S.left input.old) × (S.faults input.new ≡ S.faults input.old) }
     ensures tells { H.tells shelf.new ≡ H.tells shelf.old }
     ensures files { H.file shelf.new ≡ H.file shelf.old }
 {
     match command_of(words) {
-        None => Status::BadWords,
-        Some(Command::Seq(name)) => seq(alloc, name, shelf, output),
-        Some(Command::Check(name)) => check(alloc, name, shelf),
+        None => Ending::of(Status::BadWords),
+        Some(Command::Seq(name)) => Ending::of(seq(alloc, name, shelf, output)),
+        Some(Command::Check(name)) => Ending::of(check(alloc, name, shelf)),
+        Some(Command::Mean(name, steps)) => mean(alloc, name, steps, shelf, input, output),
     }
 }
 
@@ -96,7 +117,7 @@ fn load<H: Shelf>(alloc: Global, name: &str, shelf: &mut H) -> Result<Vec<u8>, S
     ensures fits { IfOk result (λ text. length text.items ≤ TEXT_BYTES) }
     ensures refused { IfErr result (λ status. IsUnloaded status (IsTrue (H.tells shelf.old)) (H.file shelf.old name.now)) }
     ensures loaded { OnOk result (H.faults shelf.new ≡ H.faults shelf.old) }
-    ensures counts { IfErr result (λ status. (o : ℕ) → Counts status (record { shelf = H.faults shelf.old; output = o }) (record { shelf = H.faults shelf.new; output = o })) }
+    ensures counts { IfErr result (λ status. (i o : ℕ) → Counts status (record { shelf = H.faults shelf.old; input = i; output = o }) (record { shelf = H.faults shelf.new; input = i; output = o })) }
     ensures words { IfErr result (λ status. status ≡ BadWords → ⊥) }
     ensures tells { H.tells shelf.new ≡ H.tells shelf.old }
     ensures files { H.file shelf.new ≡ H.file shelf.old }
@@ -111,12 +132,12 @@ fn load<H: Shelf>(alloc: Global, name: &str, shelf: &mut H) -> Result<Vec<u8>, S
 
 // Loads a program and runs it.
 fn seq<K: Sink, H: Shelf>(alloc: Global, name: &str, shelf: &mut H, output: &mut K) -> Status
-    ensures says { IsTrue (H.tells shelf.old) → (written : List ℕ) × Appends (K.content output.old) (K.content output.new) written
-        × SeqSays result (H.file shelf.old name.now) written }
+    ensures says { (written : List ℕ) × Appends (K.content output.old) (K.content output.new) written
+        × (IsTrue (H.tells shelf.old) → SeqSays result (H.file shelf.old name.now) written) }
     ensures words { result ≡ BadWords → ⊥ }
-    ensures counts { Counts result
-        (record { shelf = H.faults shelf.old; output = K.faults output.old })
-        (record { shelf = H.faults shelf.new; output = K.faults output.new }) }
+    ensures counts { (i : ℕ) → Counts result
+        (record { shelf = H.faults shelf.old; input = i; output = K.faults output.old })
+        (record { shelf = H.faults shelf.new; input = i; output = K.faults output.new }) }
     ensures tells { H.tells shelf.new ≡ H.tells shelf.old }
     ensures files { H.file shelf.new ≡ H.file shelf.old }
 {
@@ -130,7 +151,7 @@ fn seq<K: Sink, H: Shelf>(alloc: Global, name: &str, shelf: &mut H, output: &mut
 fn check<H: Shelf>(alloc: Global, name: &str, shelf: &mut H) -> Status
     ensures says { IsTrue (H.tells shelf.old) → CheckSays result (H.file shelf.old name.now) [] }
     ensures words { result ≡ BadWords → ⊥ }
-    ensures counts { (o : ℕ) → Counts result (record { shelf = H.faults shelf.old; output = o }) (record { shelf = H.faults shelf.new; output = o }) }
+    ensures counts { (i o : ℕ) → Counts result (record { shelf = H.faults shelf.old; input = i; output = o }) (record { shelf = H.faults shelf.new; input = i; output = o }) }
     ensures tells { H.tells shelf.new ≡ H.tells shelf.old }
     ensures files { H.file shelf.new ≡ H.file shelf.old }
 {
@@ -140,12 +161,36 @@ fn check<H: Shelf>(alloc: Global, name: &str, shelf: &mut H) -> Status
     }
 }
 
+// Loads a program and evaluates it with the input.
+fn mean<S: Source, K: Sink, H: Shelf>(
+    alloc: Global,
+    name: &str,
+    steps: u64,
+    shelf: &mut H,
+    input: &mut S,
+    output: &mut K,
+) -> Ending
+    ensures meant { HasMeant steps (λ file. IsTrue (H.tells shelf.old) × (file ≡ H.file shelf.old name.now)) result.status result.bytes
+        (S.left input.old) (S.left input.new) (K.content output.old) (K.content output.new) }
+    ensures words { result.status ≡ BadWords → ⊥ }
+    ensures counts { Counts result.status
+        (record { shelf = H.faults shelf.old; input = S.faults input.old; output = K.faults output.old })
+        (record { shelf = H.faults shelf.new; input = S.faults input.new; output = K.faults output.new }) }
+    ensures tells { H.tells shelf.new ≡ H.tells shelf.old }
+    ensures files { H.file shelf.new ≡ H.file shelf.old }
+{
+    match load(alloc, name, shelf) {
+        Ok(text) => mean_text(alloc, &text, steps, input, output),
+        Err(status) => Ending::of(status),
+    }
+}
+
 // Checks a text.
 fn check_text(alloc: Global, text: &[u8]) -> Status
     requires { length text.now ≤ TEXT_BYTES }
     ensures says { (file : Option (List ℕ)) → IsFront file MOST_BYTES text.now → CheckSays result file [] }
     ensures words { result ≡ BadWords → ⊥ }
-    ensures counts { (h o : ℕ) → Counts result (record { shelf = h; output = o }) (record { shelf = h; output = o }) }
+    ensures counts { (h i o : ℕ) → Counts result (record { shelf = h; input = i; output = o }) (record { shelf = h; input = i; output = o }) }
 {
     match front(alloc, text) {
         Ok(_) => Status::Fine,
@@ -153,11 +198,11 @@ fn check_text(alloc: Global, text: &[u8]) -> Status
     }
 }
 
-// How a command ends whose text is refused.
-fn status_of(refused: Refused) -> Status
+/// How a command ends whose text is refused.
+pub fn status_of(refused: Refused) -> Status
     ensures status { result ≡ refused_status refused }
     ensures words { result ≡ BadWords → ⊥ }
-    ensures counts { (h o : ℕ) → Counts result (record { shelf = h; output = o }) (record { shelf = h; output = o }) }
+    ensures counts { (h i o : ℕ) → Counts result (record { shelf = h; input = i; output = o }) (record { shelf = h; input = i; output = o }) }
 {
     match refused {
         Refused::OutOfMemory => Status::OutOfMemory,
@@ -168,11 +213,11 @@ fn status_of(refused: Refused) -> Status
 // Compiles a text and runs its program.
 fn seq_text<K: Sink>(alloc: Global, text: &[u8], output: &mut K) -> Status
     requires { length text.now ≤ TEXT_BYTES }
-    ensures says { (file : Option (List ℕ)) → IsFront file MOST_BYTES text.now
-        → (written : List ℕ) × Appends (K.content output.old) (K.content output.new) written × SeqSays result file written }
+    ensures says { (written : List ℕ) × Appends (K.content output.old) (K.content output.new) written
+        × ((file : Option (List ℕ)) → IsFront file MOST_BYTES text.now → SeqSays result file written) }
     ensures words { result ≡ BadWords → ⊥ }
     ensures load { result ≡ Status.LoadFault → ⊥ }
-    ensures counts { (h : ℕ) → Counts result (record { shelf = h; output = K.faults output.old }) (record { shelf = h; output = K.faults output.new }) }
+    ensures counts { (h i : ℕ) → Counts result (record { shelf = h; input = i; output = K.faults output.old }) (record { shelf = h; input = i; output = K.faults output.new }) }
 {
     match compile(alloc, text) {
         Ok(program) => match run(&program, &[], BUDGET, output) {

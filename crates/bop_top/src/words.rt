@@ -1,6 +1,16 @@
 // The words of the command line, read by hand.
 ghost use Rattle.std.specs.Prelude.{◌≡◌, ◌≢◌, ◌↔◌, ◌∷◌, [], List, ℕ, map, string_bytes, MatchOption, IsTrue};
-ghost use Rattle.bop_top.specs.Words.{Request, IsRequest, IsName, request_of};
+ghost use Rattle.std.specs.Char.{IsAsciiDigit};
+ghost use Rattle.std.specs.List.{All};
+ghost use Rattle.bop_top.specs.Words.{Request, IsRequest, IsName, IsBudget, request_of};
+
+use crate::top::BUDGET;
+
+/// How many digits a budget has at most.
+pub const BUDGET_DIGITS: usize = 13;
+
+/// How many steps a budget has at most.
+pub const MOST_BUDGET: u64 = 1_000_000_000_000;
 
 /// What the words ask for.
 #[derive(Clone, Copy, Debug)]
@@ -9,6 +19,8 @@ pub enum Command<'a> {
     Seq(&'a str),
     /// To check it.
     Check(&'a str),
+    /// To tell what it means within so many steps.
+    Mean(&'a str, u64),
 }
 
 /// What the words ask for.
@@ -18,6 +30,12 @@ pub fn command_of(words: &[String]) -> Option<Command>
 {
     match words {
         [first, name] if is_name(name.as_str()) => of_two(first.as_str(), name.as_str()),
+        [first, name, option, digits] if is_name(name.as_str()) => of_four(
+            first.as_str(),
+            name.as_str(),
+            option.as_str(),
+            digits.as_str(),
+        ),
         _ => None,
     }
 }
@@ -32,9 +50,55 @@ fn of_two<'a>(first: &str, name: &'a str) -> Option<Command<'a>>
         Some(Command::Seq(name))
     } else if first == "check" {
         Some(Command::Check(name))
+    } else if first == "mean" {
+        Some(Command::Mean(name, BUDGET))
     } else {
         None
     }
+}
+
+// What four words ask for, of which the second is a name.
+fn of_four<'a>(first: &str, name: &'a str, option: &str, digits: &str) -> Option<Command<'a>>
+    requires { IsName name.now }
+    ensures { MatchOption result ((request : Request) → IsRequest (first.now ∷ name.now ∷ option.now ∷ digits.now ∷ []) request → ⊥)
+        (λ command. IsRequest (first.now ∷ name.now ∷ option.now ∷ digits.now ∷ []) (request_of command)) }
+{
+    if first != "mean" {
+        return None;
+    }
+    if option != "--budget" {
+        return None;
+    }
+    match budget_of(digits) {
+        Some(budget) => Some(Command::Mean(name, budget)),
+        None => None,
+    }
+}
+
+// The budget that the digits give.
+fn budget_of(digits: &str) -> Option<u64>
+    ensures { MatchOption result ((budget : ℕ) → IsBudget digits.now budget → ⊥) (IsBudget digits.now) }
+{
+    if digits.len() > BUDGET_DIGITS {
+        return None;
+    }
+    if !are_digits(digits.as_bytes()) {
+        return None;
+    }
+    let Ok(budget) = digits.parse::<u64>() else {
+        return None;
+    };
+    if !(1..=MOST_BUDGET).contains(&budget) {
+        return None;
+    }
+    Some(budget)
+}
+
+// Whether a text is of digits alone.
+fn are_digits(text: &[u8]) -> bool
+    ensures { IsTrue result ↔ All IsAsciiDigit text.now }
+{
+    text.iter().all(|byte| byte.is_ascii_digit())
 }
 
 // Whether a word can be a name.

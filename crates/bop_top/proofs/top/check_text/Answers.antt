@@ -1,6 +1,3 @@
-use Rattle.std.proofs.Common.{sym, subst}
-use Rattle.bop_top.specs.declared.status.Status.{Status}
-use Rattle.bop_top.specs.Headline.{CheckSays}
 use Rattle.bop_top.proofs.Loads.{fine_says, refused_says}
 use Rattle.bop_top.proofs.top.check_text.Goals as goal
 use Rattle.bop_top.proofs.top.check_text.Goals.{in-Ok, in-Err}

@@ -1,0 +1,36 @@
+// The input of a program, read whole.
+ghost use Rattle.std.specs.Prelude.{◌≡◌, ℕ, List, IfOk, OnOk, IfErr};
+ghost use Rattle.std.specs.Io.KnownBytes.{Consumes};
+ghost use Rattle.bop_top.specs.Headline.{Counts, IsInput, IsUnread};
+
+use crate::Status;
+use bop_ends::Source;
+use std::alloc::Global;
+
+/// How many bytes an input has at most.
+pub const INPUT_BYTES: usize = 16_777_216;
+
+/// Reads the input to its end. A longer one is read until that is known.
+pub fn read_input<S: Source>(alloc: Global, input: &mut S) -> Result<Vec<u8>, Status>
+    ensures whole { IfOk result (λ bytes. Consumes (S.left input.old) (S.left input.new) bytes.items × IsInput bytes.items (S.left input.new)) }
+    ensures part { IfErr result (λ status. (taken : List ℕ) × Consumes (S.left input.old) (S.left input.new) taken × IsUnread status taken) }
+    ensures kept { OnOk result (S.faults input.new ≡ S.faults input.old) }
+    ensures counts { IfErr result (λ status. (h o : ℕ) → Counts status
+        (record { shelf = h; input = S.faults input.old; output = o })
+        (record { shelf = h; input = S.faults input.new; output = o })) }
+{
+    let mut bytes = Vec::new(alloc);
+    let mut piece = [0; 4096];
+    while bytes.len() <= INPUT_BYTES {
+        let Ok(count) = input.read(&mut piece) else {
+            return Err(Status::ReadFault);
+        };
+        if count == 0 {
+            return Ok(bytes);
+        }
+        if bytes.extend_from_slice(&piece[..count]).is_err() {
+            return Err(Status::OutOfMemory);
+        }
+    }
+    Err(Status::InputTooLong)
+}
