@@ -32,4 +32,5 @@ pub mod SteadyExec
 pub mod SteadyTurns
 pub mod Turns
 pub mod Views
+pub mod WiderLemmas
 pub mod Written

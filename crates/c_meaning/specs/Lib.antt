@@ -23,3 +23,4 @@ pub mod Routines
 pub mod Run
 pub mod Started
 pub mod Turned
+pub mod Wider

@@ -38,7 +38,9 @@ mod tests;
 mod turning;
 
 pub use kind::{Held, Operand};
-pub use law::{later_answer_stays, markers_mean_nothing, output_grows};
+pub use law::{
+    later_answer_stays, markers_mean_nothing, output_grows, wider_bounds_change_nothing,
+};
 pub use meaning::evaluate;
 pub use meant::Meant;
 pub use output::Output;
