@@ -8,6 +8,10 @@ use Rattle.bop_ends.specs.declared.fault.LoadFault.TheVariants.{Failed, OutOfMem
 abbrev pub Rose : ℕ → ℕ → Type 0
 Rose before now = min (before + 1) (2 ^ 64 - 1) ≤ now
 
+-- the count is one more than it was, or stands at the end of its 64 bits
+abbrev pub RaisedOnce : ℕ → ℕ → Type 0
+RaisedOnce before now = now ≡ min (before + 1) (2 ^ 64 - 1)
+
 -- an error comes only where the count rose, and every other answer leaves the count
 pub record HasCause {T E : Type 0} (before now : ℕ) (result : Result T E) : Type 0 where
   pub later : before ≤ now

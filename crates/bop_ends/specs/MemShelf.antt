@@ -17,7 +17,7 @@ abbrev pub mem_shelf_calls : MemShelf → ℕ
 mem_shelf_calls shelf = shelf.calls
 
 abbrev pub mem_shelf_faults : MemShelf → ℕ
-mem_shelf_faults shelf = shelf.faults
+mem_shelf_faults shelf = shelf.faults.count
 
 -- the next load is to fail
 abbrev pub next_fails : MemShelf → Bool

@@ -19,7 +19,7 @@ abbrev pub mem_sink_calls : MemSink → ℕ
 mem_sink_calls sink = sink.calls
 
 abbrev pub mem_sink_faults : MemSink → ℕ
-mem_sink_faults sink = sink.faults
+mem_sink_faults sink = sink.faults.count
 
 -- the failure that is planned for the next call
 abbrev pub next_failure : MemSink → Option ℕ

@@ -20,7 +20,7 @@ abbrev pub mem_source_calls : MemSource → ℕ
 mem_source_calls source = source.calls
 
 abbrev pub mem_source_faults : MemSource → ℕ
-mem_source_faults source = source.faults
+mem_source_faults source = source.faults.count
 
 -- the next call is to fail
 abbrev pub next_fails : MemSource → Bool

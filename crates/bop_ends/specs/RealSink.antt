@@ -6,4 +6,4 @@ abbrev pub real_sink_writer : {W : Type 0} → RealSink W → W
 real_sink_writer sink = sink.writer
 
 abbrev pub real_sink_faults : {W : Type 0} → RealSink W → ℕ
-real_sink_faults sink = sink.faults
+real_sink_faults sink = sink.faults.count

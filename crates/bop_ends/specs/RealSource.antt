@@ -6,4 +6,4 @@ abbrev pub real_source_reader : {R : Type 0} → RealSource R → R
 real_source_reader source = source.reader
 
 abbrev pub real_source_faults : {R : Type 0} → RealSource R → ℕ
-real_source_faults source = source.faults
+real_source_faults source = source.faults.count

@@ -2,6 +2,7 @@
 #![tactic(auto)]
 
 mod fault;
+mod faults;
 mod mem_shelf;
 mod mem_sink;
 mod mem_source;

@@ -1,9 +1,10 @@
 // A shelf in memory, which fails as planned.
-ghost use Rattle.std.specs.Prelude.{◌≡◌, ◌+◌, ◌-◌, ◌^◌, ◌≤◌, min, true, false, Err, IfOk, IsTrue, IsSome, IsNone, IsOkUnless};
+ghost use Rattle.std.specs.Prelude.{◌≡◌, ◌+◌, ◌-◌, ◌^◌, ◌≤◌, min, true, false, Err, IfOk, IsTrue, IsSome, IsNone, IsErrOf, IsOkUnless};
 ghost use Rattle.std.specs.Option.{option_copied};
 ghost use Rattle.bop_ends.specs.Files.{file_in};
-ghost use Rattle.bop_ends.specs.Ends.{HasLoadCause, IsFront};
+ghost use Rattle.bop_ends.specs.Ends.{HasLoadCause, IsFront, RaisedOnce};
 
+use crate::faults::Faults;
 use crate::plan::is_planned;
 use crate::{LoadFault, Shelf};
 use std::alloc::Global;
@@ -17,7 +18,7 @@ pub struct MemShelf {
     files: BTreeMap<String, Vec<u8>>,
     fails: Vec<u64>,
     calls: u64,
-    faults: u64,
+    faults: Faults,
 }
 
 impl MemShelf {
@@ -35,7 +36,7 @@ impl MemShelf {
             files,
             fails,
             calls: 0,
-            faults: 0,
+            faults: Faults::none(),
         }
     }
 
@@ -44,14 +45,6 @@ impl MemShelf {
         ensures { option_copied result ≡ mem_shelf_file self.now name.now }
     {
         self.files.get(name).map(|content| content.as_slice())
-    }
-
-    fn count_fault(&mut self)
-        ensures later { self.old.faults ≤ self.new.faults }
-        ensures count { self.new.faults ≡ min (self.old.faults + 1) (2 ^ 64 - 1) }
-        ensures rest { self.new ≡ record self.old { faults = self.new.faults } }
-    {
-        self.faults = self.faults.saturating_add(1);
     }
 }
 
@@ -77,16 +70,20 @@ impl Shelf for MemShelf {
         ensures unplanned { next_fails self.old ≡ false
             → IsSome (mem_shelf_file self.old name.now) → IsOkUnless result LoadFault.OutOfMemory }
         ensures call { TakesLoad self.old self.new }
+
+        // A failure is counted once.
+        ensures counted { IsErrOf result LoadFault.Failed
+            → RaisedOnce (mem_shelf_faults self.old) (mem_shelf_faults self.new) }
     {
         let planned = is_planned(&self.fails, self.calls);
         self.calls = self.calls.saturating_add(1);
         if planned {
-            self.count_fault();
+            self.faults.raise();
             return Err(LoadFault::Failed);
         }
         match self.files.get(name) {
             None => {
-                self.count_fault();
+                self.faults.raise();
                 Err(LoadFault::Failed)
             }
             Some(content) => {

@@ -1,7 +1,8 @@
 // A sink in memory, which fails as planned.
-ghost use Rattle.std.specs.Prelude.{◌≡◌, ◌↔◌, ◌++◌, ◌≤◌, [], Some, length, take, vec_len, vec_capacity, IfOk, IsOk, IsNone};
-ghost use Rattle.bop_ends.specs.Ends.{AppendsPiece, HasCause};
+ghost use Rattle.std.specs.Prelude.{◌≡◌, ◌↔◌, ◌++◌, ◌≤◌, [], Some, length, take, vec_len, vec_capacity, IfOk, IsOk, IsNone, OnErr};
+ghost use Rattle.bop_ends.specs.Ends.{AppendsPiece, HasCause, RaisedOnce};
 
+use crate::faults::Faults;
 use crate::plan::planned_failure;
 use crate::{Failed, OutOfMemory, Sink};
 use std::alloc::Global;
@@ -15,7 +16,7 @@ pub struct MemSink {
     room: usize,
     fails: Vec<(u64, usize)>,
     calls: u64,
-    faults: u64,
+    faults: Faults,
     ghost within: { vec_len content ≤ room },
     ghost reserved: { room ≤ vec_capacity content },
 }
@@ -37,7 +38,7 @@ impl MemSink {
                 room,
                 fails,
                 calls: 0,
-                faults: 0,
+                faults: Faults::none(),
             }),
             Err(_) => Err(OutOfMemory),
         }
@@ -70,6 +71,10 @@ impl Sink for MemSink {
         ensures kept { mem_sink_content self.new
             ≡ mem_sink_content self.old ++ take (kept_of self.old piece.now) piece.now }
         ensures call { TakesCall self.old self.new }
+
+        // A failure is counted once.
+        ensures counted { OnErr result
+            (RaisedOnce (mem_sink_faults self.old) (mem_sink_faults self.new)) }
     {
         let planned = planned_failure(&self.fails, self.calls);
         self.calls = self.calls.saturating_add(1);
@@ -79,7 +84,7 @@ impl Sink for MemSink {
         if planned.is_none() && kept == piece.len() && stored.is_ok() {
             return Ok(());
         }
-        self.faults = self.faults.saturating_add(1);
+        self.faults.raise();
         Err(Failed)
     }
 }

@@ -1,9 +1,10 @@
 // A source in memory, which fails as planned.
-ghost use Rattle.std.specs.Prelude.{◌≡◌, ◌↔◌, ◌++◌, ◌+◌, ◌-◌, ◌^◌, ◌≤◌, Some, drop, min, take, vec_len, if◌then◌else◌, IfOk, IsErr, IsTrue};
+ghost use Rattle.std.specs.Prelude.{◌≡◌, ◌↔◌, ◌++◌, ◌+◌, ◌-◌, ◌^◌, ◌≤◌, Some, drop, min, take, vec_len, if◌then◌else◌, IfOk, IsErr, IsTrue, OnErr};
 ghost use Rattle.std.specs.Io.{ReadsAtMost};
 ghost use Rattle.std.specs.Io.KnownBytes.{ReadConsumes};
-ghost use Rattle.bop_ends.specs.Ends.{HasCause};
+ghost use Rattle.bop_ends.specs.Ends.{HasCause, RaisedOnce};
 
+use crate::faults::Faults;
 use crate::plan::is_planned;
 use crate::{Failed, Source};
 
@@ -16,7 +17,7 @@ pub struct MemSource {
     piece: usize,
     fails: Vec<u64>,
     calls: u64,
-    faults: u64,
+    faults: Faults,
     ghost within: { at ≤ vec_len content },
     ghost gives: { 1 ≤ piece },
 }
@@ -39,7 +40,7 @@ impl MemSource {
             piece,
             fails,
             calls: 0,
-            faults: 0,
+            faults: Faults::none(),
         }
     }
 
@@ -73,14 +74,15 @@ impl Source for MemSource {
         ensures rest { mem_source_left self.new
             ≡ drop (moved_by self.old into.old) (mem_source_left self.old) }
         ensures call { TakesRead self.old self.new }
-        ensures counted { mem_source_faults self.new
-            ≡ (if next_fails self.old then min (mem_source_faults self.old + 1) (2 ^ 64 - 1)
-            else mem_source_faults self.old) }
+
+        // A failure is counted once.
+        ensures counted { OnErr result
+            (RaisedOnce (mem_source_faults self.old) (mem_source_faults self.new)) }
     {
         let planned = is_planned(&self.fails, self.calls);
         self.calls = self.calls.saturating_add(1);
         if planned {
-            self.faults = self.faults.saturating_add(1);
+            self.faults.raise();
             return Err(Failed);
         }
         let left = &self.content[self.at..];

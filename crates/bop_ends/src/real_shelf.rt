@@ -1,6 +1,8 @@
 // A shelf over the files of the machine.
-ghost use Rattle.std.specs.Prelude.{◌≡◌, None, false, take, IfOk, IfSome};
+ghost use Rattle.std.specs.Prelude.{◌≡◌, None, false, take, IfOk, IfSome, IsErrOf};
+ghost use Rattle.bop_ends.specs.Ends.{HasLoadCause, RaisedOnce};
 
+use crate::faults::Faults;
 use crate::{LoadFault, Shelf};
 use std::alloc::Global;
 use std::fs::File;
@@ -12,7 +14,7 @@ use std::rt::Files;
 #[derive(Drop)]
 pub struct RealShelf<'a, F: Files> {
     rt: &'a F,
-    faults: u64,
+    faults: Faults,
 }
 
 impl<'a, F: Files> RealShelf<'a, F> {
@@ -21,7 +23,10 @@ impl<'a, F: Files> RealShelf<'a, F> {
     pub fn new(rt: &'a F) -> RealShelf<'a, F>
         ensures { real_shelf_faults result ≡ 0 }
     {
-        RealShelf { rt, faults: 0 }
+        RealShelf {
+            rt,
+            faults: Faults::none(),
+        }
     }
 }
 
@@ -48,12 +53,19 @@ impl<F: Files> Shelf for RealShelf<'_, F> {
 
     ghost faults = { λ shelf. real_shelf_faults shelf };
 
-    fn load(&mut self, alloc: Global, name: &str, most: usize) -> Result<Vec<u8>, LoadFault> {
+    fn load(&mut self, alloc: Global, name: &str, most: usize) -> Result<Vec<u8>, LoadFault>
+        // What holds of every shelf that tells nothing.
+        ensures cause { HasLoadCause (real_shelf_faults self.old) (real_shelf_faults self.new) result }
+
+        // A failure is counted once.
+        ensures counted { IsErrOf result LoadFault.Failed
+            → RaisedOnce (real_shelf_faults self.old) (real_shelf_faults self.new) }
+    {
         match load_file(self.rt, alloc, name, most) {
             Ok(bytes) => Ok(bytes),
             Err(error) if error.kind() == ErrorKind::OutOfMemory => Err(LoadFault::OutOfMemory),
             Err(_) => {
-                self.faults = self.faults.saturating_add(1);
+                self.faults.raise();
                 Err(LoadFault::Failed)
             }
         }
@@ -66,9 +78,17 @@ mod tests {
     use std::fs;
     use std::test::Fail;
 
+    // Removes the file and the folder of the test, where an earlier run has left them or this one
+    // has made them.
+    fn clear<F: Files>(rt: &F) {
+        let _ = fs::remove_file(rt, "a.c");
+        let _ = fs::remove_dir(rt, "folder");
+    }
+
     #[test]
     fn a_shelf_of_real_files_loads_the_front_of_a_file(rt: HostRuntime) -> Result<(), Fail> {
         let alloc = rt.alloc();
+        clear(&rt);
         fs::write(&rt, "a.c", "abcdef")?;
         fs::create_dir(&rt, "folder")?;
         let mut shelf = RealShelf::new(&rt);
@@ -89,6 +109,7 @@ mod tests {
             };
             assert_eq!(rt; front, want, "{name} up to {most}");
         }
+        clear(&rt);
         Ok(())
     }
 }

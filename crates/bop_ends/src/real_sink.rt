@@ -1,7 +1,8 @@
 // A sink over a writer of std.
-ghost use Rattle.std.specs.Prelude.{◌≡◌};
-ghost use Rattle.bop_ends.specs.Ends.{AppendsPiece};
+ghost use Rattle.std.specs.Prelude.{◌≡◌, OnErr};
+ghost use Rattle.bop_ends.specs.Ends.{AppendsPiece, HasCause, RaisedOnce};
 
+use crate::faults::Faults;
 use crate::{Failed, Sink};
 use std::io::Write;
 
@@ -11,7 +12,7 @@ use std::io::Write;
 #[derive(Drop)]
 pub struct RealSink<W: Write> {
     writer: W,
-    faults: u64,
+    faults: Faults,
 }
 
 impl<W: Write> RealSink<W> {
@@ -21,7 +22,10 @@ impl<W: Write> RealSink<W> {
         ensures writer { real_sink_writer result ≡ writer }
         ensures faults { real_sink_faults result ≡ 0 }
     {
-        RealSink { writer, faults: 0 }
+        RealSink {
+            writer,
+            faults: Faults::none(),
+        }
     }
 }
 
@@ -46,10 +50,19 @@ impl<W: Write> Sink for RealSink<W> {
 
     ghost faults = { λ sink. real_sink_faults sink };
 
-    fn append(&mut self, piece: &[u8]) -> Result<(), Failed> {
+    fn append(&mut self, piece: &[u8]) -> Result<(), Failed>
+        // What holds of every sink.
+        ensures bytes { AppendsPiece (W.contents (real_sink_writer self.old))
+            (W.contents (real_sink_writer self.new)) result piece.now }
+        ensures cause { HasCause (real_sink_faults self.old) (real_sink_faults self.new) result }
+
+        // A failure is counted once.
+        ensures counted { OnErr result
+            (RaisedOnce (real_sink_faults self.old) (real_sink_faults self.new)) }
+    {
         let written = write_whole(&mut self.writer, piece);
         if written.is_err() {
-            self.faults = self.faults.saturating_add(1);
+            self.faults.raise();
         }
         written
     }

@@ -1,6 +1,10 @@
 // A source over a reader of std.
-ghost use Rattle.std.specs.Prelude.{◌≡◌};
+ghost use Rattle.std.specs.Prelude.{◌≡◌, OnErr};
+ghost use Rattle.std.specs.Io.{ReadsAtMost};
+ghost use Rattle.std.specs.Io.KnownBytes.{ReadConsumes};
+ghost use Rattle.bop_ends.specs.Ends.{HasCause, RaisedOnce};
 
+use crate::faults::Faults;
 use crate::{Failed, Source};
 use std::io::Read;
 
@@ -9,7 +13,7 @@ use std::io::Read;
 #[derive(Drop)]
 pub struct RealSource<R: Read> {
     reader: R,
-    faults: u64,
+    faults: Faults,
 }
 
 impl<R: Read> RealSource<R> {
@@ -19,7 +23,10 @@ impl<R: Read> RealSource<R> {
         ensures reader { real_source_reader result ≡ reader }
         ensures faults { real_source_faults result ≡ 0 }
     {
-        RealSource { reader, faults: 0 }
+        RealSource {
+            reader,
+            faults: Faults::none(),
+        }
     }
 }
 
@@ -30,11 +37,21 @@ impl<R: Read> Source for RealSource<R> {
 
     ghost faults = { λ source. real_source_faults source };
 
-    fn read(&mut self, into: &mut [u8]) -> Result<usize, Failed> {
+    fn read(&mut self, into: &mut [u8]) -> Result<usize, Failed>
+        // What holds of every source.
+        ensures bound { ReadsAtMost result into.new }
+        ensures bytes { ReadConsumes (R.remaining (real_source_reader self.old))
+            (R.remaining (real_source_reader self.new)) result into.new }
+        ensures cause { HasCause (real_source_faults self.old) (real_source_faults self.new) result }
+
+        // A failure is counted once.
+        ensures counted { OnErr result
+            (RaisedOnce (real_source_faults self.old) (real_source_faults self.new)) }
+    {
         match self.reader.read(into) {
             Ok(count) => Ok(count),
             Err(_) => {
-                self.faults = self.faults.saturating_add(1);
+                self.faults.raise();
                 Err(Failed)
             }
         }
@@ -64,21 +81,20 @@ mod tests {
     }
 
     #[test]
-    fn a_source_over_a_reader_counts_its_errors(rt: HostRuntime) -> Result<(), Fail> {
+    fn a_source_over_a_reader_fails_where_it_does(rt: HostRuntime) -> Result<(), Fail> {
         let front: &[u8] = b"abcde";
         let mut source = RealSource::new(front.chain(Broken { told: false }));
-        let wants: [(Result<&[u8], Failed>, u64); 5] = [
-            (Ok(b"abc"), 0),
-            (Ok(b"de"), 0),
-            (Err(Failed), 1),
-            (Ok(b""), 1),
-            (Ok(b""), 1),
+        let wants: [Result<&[u8], Failed>; 5] = [
+            Ok(b"abc"),
+            Ok(b"de"),
+            Err(Failed),
+            Ok(b""),
+            Ok(b""),
         ];
-        for (call, (want, faults)) in wants.iter().enumerate() {
+        for (call, want) in wants.iter().enumerate() {
             let mut into = [0; 3];
             let got = source.read(&mut into).map(|count| &into[..count]);
             assert_eq!(rt; got, *want, "read {call}");
-            assert_eq!(rt; source.faults, *faults, "read {call}");
         }
         Ok(())
     }
