@@ -5,11 +5,7 @@ use Rattle.std.proofs.KnownBytes.{Appends-trans}
 use Rattle.std.specs.Io.KnownBytes.{Appends}
 use Rattle.byte_lists.specs.Prefix.{IsPrefix}
 use Rattle.byte_lists.specs.Content.{AppendsPrefix}
-use Rattle.byte_lists.proofs.Prefixes.{IsPrefix-refl, IsPrefix-trans, IsPrefix-take, IsPrefix-behind}
-
-pub AppendsPrefix-whole : (a b : Option (List ℕ)) (bytes : List ℕ)
-    → Appends a b bytes → AppendsPrefix a b bytes
-AppendsPrefix-whole a b bytes p = (bytes, IsPrefix-refl bytes, p)
+use Rattle.byte_lists.proofs.Prefixes.{IsPrefix-trans, IsPrefix-take, IsPrefix-behind}
 
 pub AppendsPrefix-take : (a b : Option (List ℕ)) (n : ℕ) (bytes : List ℕ)
     → Appends a b (take n bytes) → AppendsPrefix a b bytes
