@@ -5,8 +5,8 @@ ghost use Rattle.c_tree.specs.Syntax.{LoopFrom};
 ghost use Rattle.c_tree.specs.View.{expression, beginning, held, statement, statements, part, parts};
 ghost use Rattle.c_tree.specs.Erase.{erased, erased_all, erased_part, erased_text};
 
+use crate::OutOfMemory;
 use crate::copy::{expr, first, optional, params, vars};
-use crate::memory::OutOfMemory;
 use crate::place::Place;
 use crate::tree::{Expr, First, Fun, Item, Stmt, StmtKind, Tree};
 use std::alloc::Global;

@@ -4,7 +4,7 @@ ghost use Rattle.std.specs.Prelude.{◌≡◌, false, map, option_map, IfOk};
 ghost use Rattle.c_tree.specs.View.{expression, initialiser, declarator, beginning, parameter};
 ghost use Rattle.c_tree.specs.FirstOperand.{has_first, with_first};
 
-use crate::memory::OutOfMemory;
+use crate::OutOfMemory;
 use crate::spine::Spine;
 use crate::tree::{Callee, Expr, ExprKind, First, Init, Param, Var};
 use std::alloc::Global;

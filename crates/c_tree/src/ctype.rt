@@ -3,7 +3,7 @@
 ghost use Rattle.std.specs.Prelude.{◌≡◌, IfOk};
 ghost use Rattle.c_tree.specs.View.{shape};
 
-use crate::memory::OutOfMemory;
+use crate::OutOfMemory;
 use std::alloc::Global;
 
 /// A type of the source language.

@@ -8,7 +8,6 @@ mod copy;
 mod ctype;
 mod edge;
 mod law;
-mod memory;
 mod name;
 mod operator;
 mod place;
@@ -19,6 +18,7 @@ mod tree;
 mod undefined;
 
 pub use bare::erase;
+pub use bop_ends::OutOfMemory;
 pub use breach::{Breach, Broken, Least, Ranking};
 pub use checked::Checked;
 pub use ctype::CType;
@@ -27,7 +27,6 @@ pub use law::{
     erased_text_has_no_marker, erased_tree_is_accepted, erasing_twice_is_erasing_once,
     unmarked_text_stays,
 };
-pub use memory::OutOfMemory;
 pub use name::Name;
 pub use operator::{Binary, Keep, Step, Unary};
 pub use place::Place;

@@ -4,7 +4,8 @@ ghost use Rattle.std.specs.Prelude.{◌≡◌, nat_eq, IfOk};
 ghost use Rattle.std.specs.Cmp.{partial_equiv_from_equiv};
 ghost use Rattle.std.specs.Cmp.Lexicographic.{nat_list_eq_equiv, pointwise};
 
-use std::alloc::{AllocError, Global};
+use crate::OutOfMemory;
+use std::alloc::Global;
 use std::marker::Model;
 
 /// A name, which contracts see as the list of its bytes.
@@ -37,7 +38,7 @@ impl Name {
     }
 
     /// An equal name in memory of its own.
-    pub fn again(&self, alloc: Global) -> Result<Name, AllocError>
+    pub fn again(&self, alloc: Global) -> Result<Name, OutOfMemory>
         ensures { IfOk result (λ name. name ≡ self.now) }
     {
         Ok(Name {

@@ -6,7 +6,7 @@ ghost use Rattle.c_tree.specs.declared.tree.Expr.{size-Expr};
 ghost use Rattle.c_tree.specs.View.{expression};
 ghost use Rattle.c_tree.specs.FirstOperand.{has_first, with_first, within};
 
-use crate::memory::OutOfMemory;
+use crate::OutOfMemory;
 use crate::tree::{Expr, ExprKind};
 use std::alloc::Global;
 
