@@ -2,17 +2,17 @@
 
 ghost use Rattle.std.specs.Prelude.{◌≡◌, ◌++◌, Some, None, true};
 ghost use Rattle.c_tree.specs.Breach.{least_of, unless, breach};
-ghost use Rattle.c_tree.specs.Breaches.{breaches, breaches_in, possible_one};
+ghost use Rattle.c_tree.specs.Breaches.{breaches, breaches_in, may_take};
 ghost use Rattle.c_tree.specs.Constant.{value_of, constant_breaches};
 ghost use Rattle.c_tree.specs.Declarators.{pointers, element_shape, declared_shape, constants_breaches, takes_constant, are_at_most, are_within, takes_list, global_init_breaches, local_init_breaches, init_breaches};
-ghost use Rattle.c_tree.specs.Rules.{is_nought, store_rule};
+ghost use Rattle.c_tree.specs.Rules.{is_nought};
 ghost use Rattle.c_tree.specs.Shapes.{is_integer};
 ghost use Rattle.c_tree.specs.Typing.{type_at};
 ghost use Rattle.c_tree.specs.View.{expression, expressions, initialiser, declarator, shape};
 ghost use Rattle.c_types.specs.Env.{scope_of};
 
 use c_tree::{Broken, CType, Expr, Init, Least, Place, Var};
-use c_types::{Env, PartRule, Seen, evaluate, is_nought, note, value_of, walk};
+use c_types::{Env, Seen, evaluate, is_nought, may_take, note, value_of, walk};
 
 /// A global takes a constant.
 fn takes_constant(ty: &CType, nought: bool) -> bool
@@ -87,10 +87,10 @@ fn check_global(v: &Var, init: &Init, ty: &CType, env: &Env, least: &mut Least)
 /// Notes what an object of a type is initialised with wrongly, as by an assignment.
 #[tactic(auto, using(c_tree::proofs::LeastBreach::append_rules))]
 fn check_value(ty: &CType, e: &Expr, place: Place, env: &Env, least: &mut Least)
-    ensures { least.new ≡ least_of least.old (breaches (scope_of env.now) true (expression e.now) ++ unless (possible_one (store_rule None (is_nought (expression e.now)) (shape ty.now)) (type_at (scope_of env.now) (expression e.now))) Broken.Mismatch place) }
+    ensures { least.new ≡ least_of least.old (breaches (scope_of env.now) true (expression e.now) ++ unless (may_take (shape ty.now) (is_nought (expression e.now)) (type_at (scope_of env.now) (expression e.now))) Broken.Mismatch place) }
 {
     let from = walk(e, env, true, least);
-    let right = PartRule::Argument(Seen::of(ty), is_nought(e)).possible(from);
+    let right = may_take(Seen::of(ty), is_nought(e), from);
     note(least, right, Broken::Mismatch, place);
 }
 

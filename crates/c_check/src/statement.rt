@@ -2,8 +2,8 @@
 
 ghost use Rattle.std.specs.Prelude.{◌≡◌, ◌&&◌, ◌++◌, not, true, false, None, OnOk, option_map};
 ghost use Rattle.c_tree.specs.Breach.{least_of, unless};
-ghost use Rattle.c_tree.specs.Breaches.{breaches, possible_one};
-ghost use Rattle.c_tree.specs.Rules.{is_nought, store_rule};
+ghost use Rattle.c_tree.specs.Breaches.{breaches, may_take};
+ghost use Rattle.c_tree.specs.Rules.{is_nought};
 ghost use Rattle.c_tree.specs.Scope.{entered};
 ghost use Rattle.c_tree.specs.Shapes.{is_void};
 ghost use Rattle.c_tree.specs.Statements.{behind, behind_beginning, test_breaches, optional_test_breaches, unused_breaches, beginning_breaches, return_breaches, statement_breaches, body_breaches};
@@ -16,7 +16,7 @@ ghost use Rattle.c_check.specs.Parts.{else_breaches, head_breaches};
 use crate::declarator::check_declarators;
 use crate::marker::check_marker;
 use c_tree::{Broken, CType, Expr, First, Least, OutOfMemory, Place, Stmt, StmtKind};
-use c_types::{Env, PartRule, Seen, is_nought, is_void, may_test, note, walk};
+use c_types::{Env, Seen, is_nought, is_void, may_take, may_test, note, walk};
 use std::alloc::Global;
 
 /// Notes what a condition breaks.
@@ -47,9 +47,9 @@ fn check_unused(e: &Option<Expr>, env: &Env, least: &mut Least)
 
 /// A function with a result returns a value of a type.
 fn may_return(gives: &CType, nought: bool, ty: Option<Seen>) -> bool
-    ensures { result ≡ (not (is_void (shape gives.now)) && possible_one (store_rule None nought (shape gives.now)) (seen_some ty.entry)) }
+    ensures { result ≡ (not (is_void (shape gives.now)) && may_take (shape gives.now) nought (seen_some ty.entry)) }
 {
-    !is_void(gives) && PartRule::Argument(Seen::of(gives), nought).possible(ty)
+    !is_void(gives) && may_take(Seen::of(gives), nought, ty)
 }
 
 /// Notes what a `return` breaks (6.8.6.4).

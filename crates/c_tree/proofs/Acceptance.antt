@@ -1,10 +1,9 @@
 -- A tree is accepted where its text has no fault, and the other way round.
-use Rattle.std.proofs.Common.{◌≡◌, rules, Bool, true, false, ◌&&◌, List, [], ◌∷◌, Option, Some, None, refl, ap}
+use Rattle.std.proofs.Common.{◌≡◌, rules, Bool, true, false, List, [], ◌∷◌, Option, Some, None, refl}
 use Rattle.std.specs.Prelude.{IsTrue}
 use Rattle.c_tree.specs.declared.breach.Breach.{Breach}
 use Rattle.c_tree.specs.declared.breach.Ranking.TheVariants.{ForChecks}
 use Rattle.c_tree.specs.declared.tree.Tree.{Tree}
-use Rattle.c_tree.specs.Syntax.{Part}
 use Rattle.c_tree.specs.Breach.{least_of, nothing_found}
 use Rattle.c_tree.specs.View.{parts}
 use Rattle.c_tree.specs.Scope.{otherwise}

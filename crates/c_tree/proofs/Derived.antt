@@ -11,7 +11,7 @@ use Rattle.c_tree.specs.Syntax.{Shape, IntShape, UnsignedShape, CharShape, VoidS
 use Rattle.c_tree.specs.Scope.{Known, Scope, ObjectOf, FunctionOf, look}
 use Rattle.c_tree.specs.Shapes.{same, is_integer, is_pointer, is_scalar, is_void, decayed, promoted, common}
 use Rattle.c_tree.specs.Rules.{is_nought, is_place, takes, is_sum, where_right, value_rule, branch_rule, arithmetic_rule, shift_rule, sum_rule, difference_rule, order_rule, equality_rule, logic_rule, is_pointer_with, pointed, pointed_some, infix_rule, choice_rule, element_rule, store_rule, step_rule, cast_rule, fits}
-use Rattle.c_tree.specs.Typing.{type_at, all_taken, called, one, both, object, prefix_type, is_test, result_of, parameters_of}
+use Rattle.c_tree.specs.Typing.{type_at, all_taken, called, one, both, object, prefix_type, is_taken, is_test, result_of, parameters_of}
 use Rattle.c_tree.specs.HasType.{HasType, HasValue, AreTaken, PlusSign, MinusSign, FlipSign, IsArithmetic, ByPlus, ByMinus, ByTimes, ByDivide, ByRest, ByBitAnd, ByBitXor, ByBitOr, IsShift, ByLeft, ByRight, IsOrder, ByLess, ByGreater, ByLessEqual, ByGreaterEqual, IsEquality, ByEqual, ByUnequal, IsLogic, ByOr, ByAnd, OfVariable, OfNumeral, OfLetter, OfEndOfFile, OfSign, OfNot, OfContents, OfAddress, OfStep, OfCast, OfArithmetic, OfShift, OfPointerPlus, OfPlusPointer, OfPointerMinus, OfDistance, OfOrder, OfPointerOrder, OfEquality, OfPointerEquality, OfEqualityNought, OfNoughtEquality, OfLogic, OfChoice, OfPointerChoice, OfChoiceNought, OfNoughtChoice, OfAssignment, OfIntegerUpdate, OfPointerUpdate, OfElement, OfElementTurned, OfCall, ValueOf, NoneTaken, OneTaken}
 use Rattle.c_tree.proofs.NoBreach.{left_true, right_true}
 
@@ -323,7 +323,7 @@ some_right : (b : Bool) (t : Shape) → is_some (where_right b (Some t)) ≡ tru
 some_right true t h = refl
 some_right false t h = cc
 
-at_argument : (scope : Scope) (to : Shape) (ps : List Shape) (a : Expression) (rest : Expressions) (x : Option Shape) → Derives scope a x → is_some (one (store_rule None (is_nought a) to) x) ≡ true → AreTaken scope ps rest → AreTaken scope (to ∷ ps) (Next a rest)
+at_argument : (scope : Scope) (to : Shape) (ps : List Shape) (a : Expression) (rest : Expressions) (x : Option Shape) → Derives scope a x → is_taken to (is_nought a) x ≡ true → AreTaken scope ps rest → AreTaken scope (to ∷ ps) (Next a rest)
 at_argument scope to ps a rest None f h more = cc
 at_argument scope to ps a rest (Some u) f h more = OneTaken scope to ps a rest (decayed u) (ValueOf scope a u (f u refl)) (some_right (takes to (is_nought a) (decayed u)) to h) more
 
@@ -352,4 +352,4 @@ module _ (scope : Scope) where
     all_derived (to ∷ ps) NoMore h = cc
     all_derived [] (Next a rest) h = cc
     all_derived (to ∷ ps) (Next a rest) h =
-        at_argument scope to ps a rest (type_at scope a) (derived a) (left_true _ _ h) (all_derived ps rest (right_true (is_some (one (store_rule None (is_nought a) to) (type_at scope a))) _ h))
+        at_argument scope to ps a rest (type_at scope a) (derived a) (left_true _ _ h) (all_derived ps rest (right_true (is_taken to (is_nought a) (type_at scope a)) _ h))

@@ -1,16 +1,15 @@
 -- What breaks no rule breaks none without its markers.
-use Rattle.std.specs.Prelude.{map, option_map, is_some}
-use Rattle.std.proofs.Common.{◌≡◌, ℕ, Bool, true, false, not, ◌&&◌, ◌||◌, List, [], ◌∷◌, ◌++◌, Option, Some, None, refl, sym, ap, ap₂, subst}
+use Rattle.std.specs.Prelude.{option_map, is_some}
+use Rattle.std.proofs.Common.{◌≡◌, ℕ, Bool, true, false, not, ◌||◌, List, [], ◌∷◌, ◌++◌, Option, Some, None, refl, sym, ap₂, subst}
 use Rattle.std.proofs.lemmas.List.{map-append}
 use Rattle.c_tree.specs.declared.breach.Breach.{Breach}
-use Rattle.c_tree.specs.declared.edge.Edge.{Edge}
 use Rattle.c_tree.specs.declared.place.Place.{Place}
 use Rattle.c_tree.specs.declared.tree.Tree.{Tree}
 use Rattle.c_tree.specs.Syntax.{Shape, Statement, Nothing, Evaluated, Declared, Compound, Marked, Branch, Fork, Loop, LoopOnce, LoopFrom, Returned, BreakOut, GoOn, Statements, NoStatement, Then, Function, Part, Globals, Routine}
 use Rattle.c_tree.specs.View.{parts}
 use Rattle.c_tree.specs.Scope.{Scope, entered, empty_scope}
 use Rattle.c_tree.specs.Statements.{behind, behind_beginning, test_breaches, optional_test_breaches, unused_breaches, beginning_breaches, statement_breaches, body_breaches}
-use Rattle.c_tree.specs.Regions.{edges, body_edges, function_edges, text_edges, edge_breaches}
+use Rattle.c_tree.specs.Regions.{edges, body_edges, function_edges, text_edges}
 use Rattle.c_tree.specs.Accepted.{Accepted, is_defined_by, is_defined, definition_breaches, part_breaches, parts_breaches, behind_part, with_function, function_breaches, text_breaches, is_main, has_main, result_shape, again_breaches, parameters_breaches, with_parameters, parameter_shapes}
 use Rattle.c_tree.specs.Breach.{unless}
 use Rattle.c_tree.specs.Erase.{erased, erased_all, erased_part, erased_text}

@@ -9,6 +9,7 @@ pub mod LeastBreach
 pub mod Lists
 pub mod NoBreach
 pub mod Possible
+pub mod PossibleParts
 pub mod Related
 pub mod Typed
 pub mod TypingBreaches

@@ -10,7 +10,7 @@ use Rattle.c_tree.specs.Syntax.{Shape, IntShape, UnsignedShape, CharShape, VoidS
 use Rattle.c_tree.specs.Scope.{Scope, FunctionOf}
 use Rattle.c_tree.specs.Shapes.{same, is_integer, is_pointer, is_scalar, is_void, decayed, promoted, common}
 use Rattle.c_tree.specs.Rules.{is_nought, is_place, takes, where_right, value_rule, branch_rule, sum_rule, pointed_some, infix_rule, choice_rule, element_rule, store_rule, value_prefix_rule, cast_rule, fits}
-use Rattle.c_tree.specs.Typing.{type_at, all_taken, one, both, prefix_type, is_test, result_of}
+use Rattle.c_tree.specs.Typing.{type_at, all_taken, one, both, prefix_type, is_taken, is_test, result_of}
 use Rattle.c_tree.specs.HasType.{HasType, HasValue, AreTaken, IsSign, PlusSign, MinusSign, FlipSign, IsArithmetic, ByPlus, ByMinus, ByTimes, ByDivide, ByRest, ByBitAnd, ByBitXor, ByBitOr, IsShift, ByLeft, ByRight, IsOrder, ByLess, ByGreater, ByLessEqual, ByGreaterEqual, IsEquality, ByEqual, ByUnequal, IsLogic, ByOr, ByAnd, OfVariable, OfNumeral, OfLetter, OfEndOfFile, OfSign, OfNot, OfContents, OfAddress, OfStep, OfCast, OfArithmetic, OfShift, OfPointerPlus, OfPlusPointer, OfPointerMinus, OfDistance, OfOrder, OfPointerOrder, OfEquality, OfPointerEquality, OfEqualityNought, OfNoughtEquality, OfLogic, OfChoice, OfPointerChoice, OfChoiceNought, OfNoughtChoice, OfAssignment, OfIntegerUpdate, OfPointerUpdate, OfElement, OfElementTurned, OfCall, ValueOf, NoneTaken, OneTaken}
 use Rattle.c_tree.proofs.Constants.{settled}
 use Rattle.c_tree.proofs.NoBreach.{left_true, and_true}
@@ -151,9 +151,8 @@ store_by : (how : Option Binary) (n : Bool) (to : Shape) (x : Option Shape) (v :
 store_by how n to None v h f = cc
 store_by how n to (Some u) v h f = let e : decayed u ≡ v = cc in let g : fits how to n (decayed u) ≡ true = ap (fits how to n) e ∙ f in rw g refl
 
-take_by : (n : Bool) (to : Shape) (x : Option Shape) (v : Shape) → option_map decayed x ≡ Some v → takes to n v ≡ true → is_some (one (store_rule None n to) x) ≡ true
-take_by n to None v h f = cc
-take_by n to (Some u) v h f = let e : decayed u ≡ v = cc in let g : takes to n (decayed u) ≡ true = ap (takes to n) e ∙ f in rw g refl
+take_by : (n : Bool) (to : Shape) (x : Option Shape) (v : Shape) → option_map decayed x ≡ Some v → takes to n v ≡ true → is_taken to n x ≡ true
+take_by n to x v h f = ap is_some (store_by None n to x v h f)
 
 result_by : (t : Shape) (ps : List Shape) (d : Bool) → is_void t ≡ false → result_of (Some (FunctionOf t ps d)) ≡ Some t
 result_by IntShape ps d h = refl

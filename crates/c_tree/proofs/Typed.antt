@@ -1,13 +1,13 @@
 -- An expression without a breach has a type.
-use Rattle.std.proofs.Common.{◌≡◌, Bool, true, false, List, [], ◌∷◌, Option, Some, None, is_some, if◌then◌else◌, refl, subst, ◌&&◌}
+use Rattle.std.proofs.Common.{◌≡◌, Bool, true, false, List, [], ◌∷◌, Option, Some, None, is_some, refl, subst, ◌&&◌}
 use Rattle.c_tree.specs.declared.operator.Unary.{Unary}
 use Rattle.c_tree.specs.declared.operator.Unary.TheVariants as unary
 use Rattle.c_tree.specs.declared.place.Place.{Place}
-use Rattle.c_tree.specs.declared.breach.Broken.TheVariants.{Mismatch, Unknown, Arguments}
+use Rattle.c_tree.specs.declared.breach.Broken.TheVariants.{Mismatch, Unknown}
 use Rattle.c_tree.specs.Syntax.{Shape, IntShape, UnsignedShape, CharShape, VoidShape, PointerTo, ArrayOf, Expression, Variable, Numeral, Letter, EndOfFile, Prefix, Stepped, Converted, Infix, Choice, Stored, Element, Called, Expressions, NoMore, Next}
 use Rattle.c_tree.specs.Scope.{Known, ObjectOf, FunctionOf, Scope, look}
 use Rattle.c_tree.specs.Shapes.{is_void}
-use Rattle.c_tree.specs.Breach.{breach, unless}
+use Rattle.c_tree.specs.Breach.{unless}
 use Rattle.c_tree.specs.Rules.{is_nought, is_place, where_right, step_rule, cast_rule, infix_rule, choice_rule, element_rule, store_rule}
 use Rattle.c_tree.specs.Typing.{type_at, all_taken, object, called, one, both, prefix_type, is_test, parameters_of, result_of, is_none_left, others, takes_first}
 use Rattle.c_tree.specs.Breaches.{breaches, breaches_in, name_breaches, prefix_breaches, place_breaches, passing_breaches, call_breaches, possible_one, possible_both, possible_test, may_take_first, same_count, all_possible}
@@ -56,7 +56,7 @@ place_possible false possible at h = cc
 
 takes_typed : (ps : List Shape) (n : Bool) (t : Option Shape) → is_none_left ps ≡ false → is_some t ≡ true → may_take_first ps n t ≡ true → takes_first ps n t ≡ true
 takes_typed [] n t e s h = cc
-takes_typed (to ∷ more) n t e s h = one_typed (store_rule None n to) t s h
+takes_typed (to ∷ more) n t e s h = both_typed (store_rule None n) (Some to) t refl s h
 
 -- a call without a breach counts its arguments, and none is refused
 counted : (counts fits : Bool) (at : Place) → passing_breaches false counts fits at ≡ [] → counts ≡ true

@@ -1,15 +1,15 @@
 -- The breaches of an expression are of the kinds of typing.
-use Rattle.std.proofs.Common.{◌≡◌, Bool, true, false, ◌&&◌, List, [], ◌∷◌, ◌++◌, Option, Some, None, if◌then◌else◌, refl}
+use Rattle.std.proofs.Common.{◌≡◌, Bool, true, false, ◌&&◌, List, [], ◌∷◌, ◌++◌, Option, Some, None, refl}
 use Rattle.c_tree.specs.declared.operator.Unary.{Unary}
 use Rattle.c_tree.specs.declared.operator.Unary.TheVariants as unary
 use Rattle.c_tree.specs.declared.place.Place.{Place}
 use Rattle.c_tree.specs.declared.breach.Breach.{Breach}
 use Rattle.c_tree.specs.declared.breach.Broken.{Broken}
-use Rattle.c_tree.specs.declared.breach.Broken.TheVariants.{Unknown, Mismatch, NotAPlace, Arguments}
+use Rattle.c_tree.specs.declared.breach.Broken.TheVariants.{Unknown, Mismatch, NotAPlace}
 use Rattle.c_tree.specs.Syntax.{Shape, Expression, Variable, Numeral, Letter, EndOfFile, Prefix, Stepped, Converted, Infix, Choice, Stored, Element, Called, Expressions, NoMore, Next}
 use Rattle.c_tree.specs.Scope.{Known, ObjectOf, FunctionOf, Scope, look}
 use Rattle.c_tree.specs.Shapes.{is_void}
-use Rattle.c_tree.specs.Breach.{breach, unless, is_typing}
+use Rattle.c_tree.specs.Breach.{unless, is_typing}
 use Rattle.c_tree.specs.Rules.{is_place}
 use Rattle.c_tree.specs.Typing.{type_at, called}
 use Rattle.c_tree.specs.Breaches.{breaches, breaches_in, name_breaches, prefix_breaches, place_breaches, passing_breaches, call_breaches}

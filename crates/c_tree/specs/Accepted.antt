@@ -1,5 +1,5 @@
 -- The rules that a whole text breaks (C11 6.9), its fault, and the trees that are accepted.
-use Rattle.std.specs.Prelude.{ℕ, ◌==◌, Bool, true, false, not, ◌&&◌, ◌||◌, IsTrue, List, [], ◌∷◌, ◌++◌, Option, Some, None, is_some, map, length, nat_le, bytes_eq, codes, if◌then◌else◌}
+use Rattle.std.specs.Prelude.{ℕ, Bool, true, false, not, ◌&&◌, ◌||◌, IsTrue, List, [], ◌∷◌, ◌++◌, Option, Some, None, is_some, map, length, nat_le, bytes_eq, codes}
 use Rattle.c_tree.specs.declared.breach.Breach.{Breach}
 use Rattle.c_tree.specs.declared.breach.Broken.TheVariants.{Twice, Mismatch, Arguments, NoMain, TooManyParameters}
 use Rattle.c_tree.specs.declared.breach.Ranking.TheVariants.{ForChecks}

@@ -13,7 +13,7 @@ use Rattle.c_tree.specs.Rules.{is_nought, is_place, infix_rule, choice_rule, ele
 use Rattle.c_tree.specs.Typing.{type_at, called, parameters_of, is_none_left, others}
 
 -- A node breaks a rule where no types for its parts that have none would make it right.
--- Of all types it is enough to try int, a pointer to int, and the type of the other part.
+-- Of all types it is enough to try int, a pointer to int, and the type of the other part or of the object that takes the value.
 
 abbrev pub possible_one : (Shape → Option Shape) → Option Shape → Bool
 possible_one rule (Some t) = is_some (rule t)
@@ -31,6 +31,10 @@ possible_both rule (Some t) None = possible_right rule t
 possible_both rule None (Some u) = possible_left rule u
 possible_both rule None None = possible_right rule IntShape || possible_right rule (PointerTo IntShape)
 
+-- an object of a type takes a value, or would take it with some type where the value has none
+abbrev pub may_take : Shape → Bool → Option Shape → Bool
+may_take to nought t = possible_both (store_rule None nought) (Some to) t
+
 abbrev pub possible_test : Option Shape → Bool
 possible_test None = true
 possible_test (Some c) = is_scalar (decayed c)
@@ -38,7 +42,7 @@ possible_test (Some c) = is_scalar (decayed c)
 -- no first parameter refuses an argument
 abbrev pub may_take_first : List Shape → Bool → Option Shape → Bool
 may_take_first [] nought t = true
-may_take_first (to ∷ more) nought t = possible_one (store_rule None nought to) t
+may_take_first (to ∷ more) nought t = may_take to nought t
 
 -- a name stands for an object (C11 6.5.1)
 abbrev pub name_breaches : Option Known → Place → List Breach

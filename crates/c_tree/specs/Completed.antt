@@ -1,5 +1,5 @@
 -- Parts that have no type: which types would make a node right.
-use Rattle.std.specs.Prelude.{◌≡◌, ◌↔◌, true, false, Option, Some, None, is_some}
+use Rattle.std.specs.Prelude.{◌≡◌, ◌↔◌, Bool, true, false, Option, Some, None, is_some}
 use Rattle.c_tree.specs.Syntax.{Shape}
 use Rattle.c_tree.specs.Breaches.{possible_both}
 use Rattle.c_tree.specs.Shapes.{is_void}
@@ -24,3 +24,13 @@ HasNoVoid (Some t) = is_void t ≡ false
 -- a node is possible exactly where some types make its rule hold
 abbrev pub IsExact : (Shape → Shape → Option Shape) → Type 0
 IsExact rule = (x y : Option Shape) → HasNoVoid x → HasNoVoid y → (possible_both rule x y ≡ true) ↔ Completed rule x y
+
+-- some type for a part that has none makes a rule on one part hold
+pub record CompletedPart (rule : Shape → Option Shape) (x : Option Shape) : Type 0 where
+  pub part : Shape
+  pub might : MightHave x part
+  pub holds : is_some (rule part) ≡ true
+
+-- what is said to be possible for one part is so exactly where some type makes its rule hold
+abbrev pub IsExactPart : (Option Shape → Bool) → (Shape → Option Shape) → Type 0
+IsExactPart possible rule = (x : Option Shape) → HasNoVoid x → (possible x ≡ true) ↔ CompletedPart rule x

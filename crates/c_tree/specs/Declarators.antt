@@ -2,14 +2,13 @@
 use Rattle.std.specs.Prelude.{ℕ, zero, suc, ◌==◌, Bool, true, false, not, ◌&&◌, ◌||◌, List, [], ◌∷◌, ◌++◌, Option, Some, None, is_some, nat_le, if◌then◌else◌}
 use Rattle.c_tree.specs.declared.breach.Breach.{Breach}
 use Rattle.c_tree.specs.declared.breach.Broken.TheVariants.{Twice, Mismatch}
-use Rattle.c_tree.specs.declared.place.Place.{Place}
-use Rattle.c_tree.specs.Syntax.{Shape, PointerTo, ArrayOf, Expression, Expressions, NoMore, Next, Initialiser, OneValue, ManyValues, Declarator, Parameter}
+use Rattle.c_tree.specs.Syntax.{Shape, PointerTo, ArrayOf, Expressions, NoMore, Next, Initialiser, OneValue, ManyValues, Declarator, Parameter}
 use Rattle.c_tree.specs.Scope.{ObjectOf, Scope, declared}
 use Rattle.c_tree.specs.Breach.{breach, unless}
 use Rattle.c_tree.specs.Shapes.{is_integer, is_pointer, is_unsigned}
-use Rattle.c_tree.specs.Rules.{is_nought, store_rule}
+use Rattle.c_tree.specs.Rules.{is_nought}
 use Rattle.c_tree.specs.Typing.{type_at}
-use Rattle.c_tree.specs.Breaches.{breaches, breaches_in, possible_one}
+use Rattle.c_tree.specs.Breaches.{breaches, breaches_in, may_take}
 use Rattle.c_tree.specs.Constant.{constant_shape, constant_breaches, value_of}
 
 abbrev pub pointers : ℕ → Shape → Shape
@@ -92,7 +91,7 @@ global_init_breaches scope d (Some (ManyValues values)) = constants_breaches sco
 -- what a local is initialised with, as by an assignment
 abbrev pub local_init_breaches : Scope → Declarator → Option Initialiser → List Breach
 local_init_breaches scope d None = []
-local_init_breaches scope d (Some (OneValue e)) = breaches scope true e ++ unless (possible_one (store_rule None (is_nought e) (declared_shape d)) (type_at scope e)) Mismatch d.place
+local_init_breaches scope d (Some (OneValue e)) = breaches scope true e ++ unless (may_take (declared_shape d) (is_nought e) (type_at scope e)) Mismatch d.place
 local_init_breaches scope d (Some (ManyValues values)) = breaches_in scope values ++ breach Mismatch d.place
 
 abbrev pub init_breaches : Bool → Scope → Declarator → List Breach

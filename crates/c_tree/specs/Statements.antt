@@ -1,5 +1,5 @@
 -- The rules that statements break (C11 6.8).
-use Rattle.std.specs.Prelude.{ℕ, Bool, true, false, not, ◌&&◌, List, [], ◌∷◌, ◌++◌, Option, Some, None, nat_lt}
+use Rattle.std.specs.Prelude.{Bool, true, false, not, ◌&&◌, List, [], ◌++◌, Option, Some, None, nat_lt}
 use Rattle.c_tree.specs.declared.breach.Breach.{Breach}
 use Rattle.c_tree.specs.declared.breach.Broken.TheVariants.{Unknown, Mismatch, Marker as BadMarker}
 use Rattle.c_tree.specs.declared.place.Place.{Place}
@@ -11,9 +11,9 @@ use Rattle.c_tree.specs.Syntax.{Shape, IntShape, Expression, Beginning, NoBeginn
 use Rattle.c_tree.specs.Scope.{Known, ObjectOf, FunctionOf, Scope, look, entered}
 use Rattle.c_tree.specs.Breach.{breach, unless}
 use Rattle.c_tree.specs.Shapes.{is_void, is_pointer, decayed}
-use Rattle.c_tree.specs.Rules.{is_nought, store_rule}
+use Rattle.c_tree.specs.Rules.{is_nought}
 use Rattle.c_tree.specs.Typing.{type_at}
-use Rattle.c_tree.specs.Breaches.{breaches, possible_one, possible_test}
+use Rattle.c_tree.specs.Breaches.{breaches, may_take, possible_test}
 use Rattle.c_tree.specs.Declarators.{with_declarators, declarators_breaches}
 
 -- the scope behind a statement
@@ -47,7 +47,7 @@ beginning_breaches scope (EvaluatedFirst e) = breaches scope false e
 abbrev pub return_breaches : Scope → Shape → Option Expression → Place → List Breach
 return_breaches scope result None at = unless (is_void result) Mismatch at
 return_breaches scope result (Some e) at =
-    breaches scope true e ++ unless (not (is_void result) && possible_one (store_rule None (is_nought e) result) (type_at scope e)) Mismatch at
+    breaches scope true e ++ unless (not (is_void result) && may_take result (is_nought e) (type_at scope e)) Mismatch at
 
 -- a name in a marker: a variable of a type that the test allows
 abbrev pub named_breaches : (Shape → Bool) → Option Known → Place → Place → List Breach

@@ -57,10 +57,14 @@ abbrev pub others : List Shape → List Shape
 others [] = []
 others (to ∷ more) = more
 
+-- an object of a type takes a value, as by an assignment: an argument, an initialiser, a value that is returned
+abbrev pub is_taken : Shape → Bool → Option Shape → Bool
+is_taken to nought t = is_some (both (store_rule None nought) (Some to) t)
+
 -- the first parameter takes an argument
 abbrev pub takes_first : List Shape → Bool → Option Shape → Bool
 takes_first [] nought t = false
-takes_first (to ∷ more) nought t = is_some (one (store_rule None nought to) t)
+takes_first (to ∷ more) nought t = is_taken to nought t
 
 module _ (scope : Scope) where
   abbrev mutual

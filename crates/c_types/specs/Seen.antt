@@ -4,7 +4,7 @@ use Rattle.c_tree.specs.Syntax.{Shape, PointerTo, IntShape, UnsignedShape}
 use Rattle.c_tree.specs.View.{shape}
 use Rattle.c_tree.specs.Rules.{infix_rule, choice_rule, element_rule, store_rule, prefix_rule, step_rule, cast_rule, is_at}
 use Rattle.c_types.specs.declared.rules.PartRule.{PartRule}
-use Rattle.c_types.specs.declared.rules.PartRule.TheVariants.{Prefix, Step, Cast, Argument}
+use Rattle.c_types.specs.declared.rules.PartRule.TheVariants.{Prefix, Step, Cast}
 use Rattle.c_types.specs.declared.rules.Rule.{Rule}
 use Rattle.c_types.specs.declared.rules.Rule.TheVariants.{Infix, Choice, Element, Store}
 use Rattle.c_types.specs.declared.seen.Base.{Base}
@@ -43,7 +43,6 @@ abbrev pub part_rule : PartRule → Shape → Option Shape
 part_rule (Prefix op) = prefix_rule op
 part_rule Step = step_rule
 part_rule (Cast to) = cast_rule (shape to.now)
-part_rule (Argument to nought) = store_rule None nought (seen to)
 
 -- `*`, which gives what stands somewhere
 abbrev pub is_contents : PartRule → Bool

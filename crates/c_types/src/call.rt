@@ -5,9 +5,9 @@ ghost use Rattle.std.specs.Option.{option_map, option_copied};
 ghost use Rattle.c_tree.specs.Syntax.{IntShape};
 ghost use Rattle.c_tree.specs.View.{shape};
 ghost use Rattle.c_tree.specs.Breach.{least_of, breach, unless};
-ghost use Rattle.c_tree.specs.Rules.{store_rule, where_right};
-ghost use Rattle.c_tree.specs.Typing.{one, called, result_of, parameters_of, is_none_left, others, takes_first};
-ghost use Rattle.c_tree.specs.Breaches.{possible_one, may_take_first, passing_breaches, call_breaches};
+ghost use Rattle.c_tree.specs.Rules.{where_right};
+ghost use Rattle.c_tree.specs.Typing.{called, result_of, parameters_of, is_none_left, others, is_taken, takes_first};
+ghost use Rattle.c_tree.specs.Breaches.{may_take, may_take_first, passing_breaches, call_breaches};
 ghost use Rattle.c_types.specs.Env.{scope_of, known};
 ghost use Rattle.c_types.specs.Seen.{seen, seen_some};
 ghost use Rattle.c_types.specs.Call.{target, parameters};
@@ -15,7 +15,7 @@ ghost use Rattle.c_types.specs.Call.{target, parameters};
 use crate::block::Known;
 use crate::env::Env;
 use crate::least::note;
-use crate::rules::PartRule;
+use crate::rules::{is_taken, may_take};
 use crate::seen::{Base, Seen, is_void};
 use c_tree::{Broken, CType, Callee, Least, Place};
 
@@ -139,15 +139,14 @@ fn is_none_left(types: &[CType]) -> bool
 
 fn pass_to<'a>(passed: Passed, to: Seen<'a>, nought: bool, ty: Option<Seen<'a>>) -> Passed
     ensures counts { result.counts ≡ passed.counts }
-    ensures fits { result.fits ≡ (passed.fits && possible_one (store_rule None nought (seen to.entry)) (seen_some ty.entry)) }
-    ensures typed { result.typed ≡ (passed.typed && is_some (one (store_rule None nought (seen to.entry)) (seen_some ty.entry))) }
+    ensures fits { result.fits ≡ (passed.fits && may_take (seen to.entry) nought (seen_some ty.entry)) }
+    ensures typed { result.typed ≡ (passed.typed && is_taken (seen to.entry) nought (seen_some ty.entry)) }
 {
-    let rule = PartRule::Argument(to, nought);
-    let possible = rule.possible(ty);
-    let typed = rule.one(ty).is_some();
+    let fits = may_take(to, nought, ty);
+    let typed = is_taken(to, nought, ty);
     Passed {
         counts: passed.counts,
-        fits: passed.fits && possible,
+        fits: passed.fits && fits,
         typed: passed.typed && typed,
     }
 }

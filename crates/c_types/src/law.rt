@@ -1,11 +1,14 @@
 //! Laws of typing.
 
-ghost use Rattle.std.specs.Prelude.{◌≡◌, Some, Bool, Option};
+ghost use Rattle.std.specs.Prelude.{◌≡◌, Some, None, Bool, false, Option};
 ghost use Rattle.c_tree.specs.declared.operator.Binary.{Binary};
-ghost use Rattle.c_tree.specs.Completed.{IsExact};
+ghost use Rattle.c_tree.specs.declared.operator.Unary.{Unary};
+ghost use Rattle.c_tree.specs.Breaches.{possible_one, may_take};
+ghost use Rattle.c_tree.specs.Completed.{IsExact, IsExactPart};
 ghost use Rattle.c_tree.specs.HasType.{HasType};
-ghost use Rattle.c_tree.specs.Rules.{infix_rule, choice_rule, element_rule, store_rule};
+ghost use Rattle.c_tree.specs.Rules.{infix_rule, choice_rule, element_rule, store_rule, prefix_rule, step_rule, cast_rule};
 ghost use Rattle.c_tree.specs.Scope.{Scope};
+ghost use Rattle.c_tree.specs.Shapes.{is_void};
 ghost use Rattle.c_tree.specs.Syntax.{Expression, Shape};
 ghost use Rattle.c_tree.specs.Typing.{type_at};
 
@@ -21,4 +24,10 @@ pub fn a_rule_is_broken_where_no_types_would_meet_it()
     ensures choices { (n m : Bool) → IsExact (choice_rule n m) }
     ensures elements { IsExact element_rule }
     ensures assignments { (how : Option Binary) → (n : Bool) → IsExact (store_rule how n) }
+    ensures prefixes { (op : Unary) → IsExactPart (possible_one (prefix_rule op)) (prefix_rule op) }
+    ensures steps { IsExactPart (possible_one step_rule) step_rule }
+    ensures casts { (to : Shape) → IsExactPart (possible_one (cast_rule to)) (cast_rule to) }
+    // An argument, an initialiser of a local and a value that is returned, for an object of a type.
+    ensures taken { (to : Shape) → (n : Bool) → is_void to ≡ false
+        → IsExactPart (may_take to n) (store_rule None n to) }
 {}

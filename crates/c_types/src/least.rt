@@ -78,7 +78,7 @@ pub fn none_found(by: Ranking) -> Least
 }
 
 /// Keeps a breach where it comes before the one that was found.
-pub fn keep(least: &mut Least, breach: Breach)
+fn keep(least: &mut Least, breach: Breach)
     ensures { least.new ≡ lesser least.old breach }
 {
     least.found = nearer(least.by, least.found, breach);

@@ -5,8 +5,8 @@ ghost use Rattle.c_tree.specs.Syntax.{IntShape};
 ghost use Rattle.c_tree.specs.View.{shape};
 ghost use Rattle.c_tree.specs.Shapes.{is_integer, is_pointer, promoted};
 ghost use Rattle.c_tree.specs.Rules.{arithmetic_rule, shift_rule, sum_rule, difference_rule, order_rule, is_pointer_with, equality_rule, logic_rule, value_rule, branch_rule, takes, combines, fits, element_rule, store_rule, value_prefix_rule, prefix_rule, step_rule, cast_rule, is_at, where_right};
-ghost use Rattle.c_tree.specs.Typing.{one, both};
-ghost use Rattle.c_tree.specs.Breaches.{possible_one, possible_right, possible_left, possible_both};
+ghost use Rattle.c_tree.specs.Typing.{one, both, is_taken};
+ghost use Rattle.c_tree.specs.Breaches.{possible_one, possible_right, possible_left, possible_both, may_take};
 ghost use Rattle.c_types.specs.Seen.{seen, seen_some, is_flat, rule_of, part_rule, is_contents};
 
 use crate::seen::{Base, Seen};
@@ -257,7 +257,7 @@ impl Rule {
     }
 
     /// Whether some types for the parts that have none make the node right.
-    pub fn possible(self, a: Option<Seen>, b: Option<Seen>) -> bool
+    pub(crate) fn possible(self, a: Option<Seen>, b: Option<Seen>) -> bool
         ensures { result ≡ possible_both (rule_of self) (seen_some a.entry) (seen_some b.entry) }
     {
         match (a, b) {
@@ -269,6 +269,21 @@ impl Rule {
             }
         }
     }
+}
+
+/// Whether an object of a type takes a value, as by an assignment. The flag says that the value is
+/// the literal 0.
+pub(crate) fn is_taken(to: Seen, nought: bool, value: Option<Seen>) -> bool
+    ensures { result ≡ is_taken (seen to.entry) nought (seen_some value.entry) }
+{
+    Rule::Store(None, nought).both(Some(to), value).is_some()
+}
+
+/// Whether some type for a value that has none, or its own, is taken by an object of a type.
+pub fn may_take(to: Seen, nought: bool, value: Option<Seen>) -> bool
+    ensures { result ≡ may_take (seen to.entry) nought (seen_some value.entry) }
+{
+    Rule::Store(None, nought).possible(Some(to), value)
 }
 
 /// `+ - ~ ! *` before a value, an array already a pointer (6.5.3.2, 6.5.3.3).
@@ -329,8 +344,6 @@ pub enum PartRule<'a> {
     Prefix(Unary),
     Step,
     Cast(&'a CType),
-    /// An argument for a parameter of a type, and whether it is the literal 0.
-    Argument(Seen<'a>, bool),
 }
 
 impl<'a> PartRule<'a> {
@@ -343,7 +356,6 @@ impl<'a> PartRule<'a> {
             PartRule::Prefix(op) => prefix(op, a),
             PartRule::Step => step(a),
             PartRule::Cast(to) => cast(to, a),
-            PartRule::Argument(to, nought) => store(None, nought, to, a),
         }
     }
 
@@ -365,7 +377,7 @@ impl<'a> PartRule<'a> {
     }
 
     /// Whether some type for a part that has none makes the node right.
-    pub fn possible(self, a: Option<Seen<'a>>) -> bool
+    pub(crate) fn possible(self, a: Option<Seen<'a>>) -> bool
         ensures { result ≡ possible_one (part_rule self.entry) (seen_some a.entry) }
     {
         match a {

@@ -110,7 +110,7 @@ impl<'a> Seen<'a> {
     }
 
     /// Whether two types are the same.
-    pub fn is_same(self, other: Seen) -> bool
+    pub(crate) fn is_same(self, other: Seen) -> bool
         ensures { result ≡ same (seen self.entry) (seen other.entry) }
     {
         match (self, other) {
@@ -154,7 +154,7 @@ impl<'a> Seen<'a> {
         }
     }
 
-    pub fn is_scalar(self) -> bool
+    pub(crate) fn is_scalar(self) -> bool
         ensures { result ≡ is_scalar (seen self.entry) }
     {
         self.is_integer() || self.is_pointer()
@@ -171,7 +171,7 @@ impl<'a> Seen<'a> {
     }
 
     /// Int in place of char.
-    pub fn promote(self) -> Seen<'a>
+    pub(crate) fn promote(self) -> Seen<'a>
         ensures { seen result ≡ promoted (seen self.entry) }
     {
         match self {
@@ -193,7 +193,7 @@ impl<'a> Seen<'a> {
     }
 
     /// What two integers are converted to.
-    pub fn common(self, other: Seen<'a>) -> Seen<'a>
+    pub(crate) fn common(self, other: Seen<'a>) -> Seen<'a>
         ensures { seen result ≡ common (seen self.entry) (seen other.entry) }
     {
         if self.is_unsigned() || other.is_unsigned() {
@@ -204,7 +204,7 @@ impl<'a> Seen<'a> {
     }
 
     /// The type in memory of its own.
-    pub fn own(self, alloc: Global) -> Result<CType, OutOfMemory>
+    pub(crate) fn own(self, alloc: Global) -> Result<CType, OutOfMemory>
         ensures { IfOk result (λ t. shape t ≡ seen self.entry) }
     {
         match self {

@@ -7,6 +7,12 @@ use std::test::Fail;
 /// Texts of one line, and what is reported of each.
 const TEXTS: &str = "int main(void){return x;} => rejected unknown 1 23
 int f(void);int main(void){return f();} => rejected unknown 1 35
+int main(void){char *p=zz; return 0;} => rejected unknown 1 24
+void f(char *p){} int main(void){f(zz); return 0;} => rejected unknown 1 36
+char *f(void){return zz;} int main(void){return 0;} => rejected unknown 1 22
+int main(void){int **p; int **q=p+zz; return 0;} => rejected unknown 1 35
+void f(char *p){} int main(void){f(zz,1); return 0;} => rejected arguments 1 34
+int main(void){int a[2]=zz; return 0;} => rejected bad-type 1 20
 int main(void){int a[n];int n;return 0;} => rejected unknown 1 22
 int main(void){int n[n];return 0;} => rejected unknown 1 22
 int main(void){Post(1,a,4);return 0;} => rejected unknown 1 23
