@@ -1,6 +1,6 @@
 /* With this header a text for bop is also a C program:
 
-       gcc -std=c11 -funsigned-char -include include/bop.h PROGRAM.c
+       gcc -std=c11 -funsigned-char -I include -include bop.h PROGRAM.c
 
    The markers of regions and the classes of globals then do nothing. */
 #ifndef BOP_H
