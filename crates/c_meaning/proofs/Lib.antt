@@ -10,6 +10,10 @@ pub mod ErasedEval
 pub mod ErasedExec
 pub mod ErasedMeaning
 pub mod ErasedNames
+pub mod EvaluatedLemmas
+pub mod ExecutedLemmas
+pub mod FileNames
+pub mod FileScope
 pub mod FirstValues
 pub mod Framing
 pub mod Halting
@@ -22,7 +26,9 @@ pub mod Passing
 pub mod Planned
 pub mod Resolved
 pub mod Routines
+pub mod RunnableLemmas
 pub mod Runs
+pub mod SameNames
 pub mod Spends
 pub mod Steady
 pub mod SteadyActs

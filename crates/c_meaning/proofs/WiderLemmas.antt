@@ -17,7 +17,8 @@ use Rattle.c_meaning.proofs.Turns.{turns_stay}
 alone_spends : {A : Type 0} {below : ℕ} {run : Run A} → Alone 0 below run → Spends run
 alone_spends s = record { leaves = λ store. (s store).like.leaves }
 
-pub deeper_calls : (text : List Part) (input : List ℕ) (n k : ℕ) → meant_deeper k text input n ≡ meant text input n
+pub deeper_calls : (text : List Part) (input : List ℕ) (n k : ℕ)
+    → meant_deeper k text input n ≡ meant text input n
 unfolding meant meant_deeper
 deeper_calls text input n k =
     let calls = steady_calls text input {k = 0} n (n + k) (omega arith) in
@@ -28,7 +29,8 @@ module _ (text : List Part) (input : List ℕ) (depth : ℕ) (result : Shape) (n
   own_calls : (d : Definition) (vs : List ℕ) → Alone 0 depth (calls_at text input depth d vs)
   own_calls = calls_alone text input depth
 
-  body_spends : (s : Statement) → Spends (exec input (calls_at text input depth) result names places s)
+  body_spends : (s : Statement)
+      → Spends (exec input (calls_at text input depth) result names places s)
   body_spends s =
       let calls = calls_at text input depth in
       alone_spends (steady_exec input calls calls own_calls result names places s)

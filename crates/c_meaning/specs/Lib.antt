@@ -6,6 +6,7 @@ pub mod Called
 pub mod Contents
 pub mod Entries
 pub mod Eval
+pub mod Evaluated
 pub mod Exec
 pub mod Live
 pub mod Machine

@@ -1,10 +1,14 @@
 //! Laws of the meaning.
 
-ghost use Rattle.std.specs.Prelude.{◌≡◌, ℕ, ◌+◌, List, Option, true};
+ghost use Rattle.std.specs.Prelude.{◌≡◌, ℕ, ◌+◌, List, [], Option, true};
 ghost use Rattle.byte_lists.specs.Prefix.{IsPrefix};
+ghost use Rattle.c_tree.specs.declared.tree.Tree.{Tree};
+ghost use Rattle.c_tree.specs.Accepted.{Accepted, has_main, text_breaches};
 ghost use Rattle.c_tree.specs.Erase.{erased_text};
 ghost use Rattle.c_tree.specs.Syntax.{Shape, Expression, Statement, Part};
+ghost use Rattle.c_tree.specs.View.{parts};
 ghost use Rattle.c_meaning.specs.Eval.{eval};
+ghost use Rattle.c_meaning.specs.Evaluated.{IsRunnable};
 ghost use Rattle.c_meaning.specs.Exec.{exec, step, test};
 ghost use Rattle.c_meaning.specs.Meaning.{calls_at, meant};
 ghost use Rattle.c_meaning.specs.Names.{Names};
@@ -36,4 +40,10 @@ pub fn wider_bounds_change_nothing()
     ensures for_loops { (text : List Part) (input : List ℕ) (depth : ℕ) (result : Shape) (names : Names) (places : List ℕ)
         (c d : Option Expression) (s : Statement) → let calls = calls_at text input depth in
         NeedsNoMoreTests (test input calls names c) (exec input calls result names places s) (step input calls names d) }
+{}
+
+/// What an accepted text evaluates has a type, a place or a definition, wherever its meaning takes one for granted.
+pub fn an_accepted_text_has_types()
+    ensures text { (text : List Part) → text_breaches text ≡ [] → has_main text ≡ true → IsRunnable text }
+    ensures tree { (tree : Tree) → Accepted tree → IsRunnable (parts tree) }
 {}

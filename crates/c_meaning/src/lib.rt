@@ -39,7 +39,8 @@ mod turning;
 
 pub use kind::{Held, Operand};
 pub use law::{
-    later_answer_stays, markers_mean_nothing, output_grows, wider_bounds_change_nothing,
+    an_accepted_text_has_types, later_answer_stays, markers_mean_nothing, output_grows,
+    wider_bounds_change_nothing,
 };
 pub use meaning::evaluate;
 pub use meant::Meant;

@@ -35,7 +35,7 @@ either false c h f g = g h
 nat_is : (n m : ℕ) → n == m ≡ true → n ≡ m
 nat_is n m h = grind (arith, nat_tests)
 
-same_is : (t u : Shape) → same t u ≡ true → t ≡ u
+pub same_is : (t u : Shape) → same t u ≡ true → t ≡ u
 same_is IntShape IntShape h = refl
 same_is UnsignedShape UnsignedShape h = refl
 same_is CharShape CharShape h = refl

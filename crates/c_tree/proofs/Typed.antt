@@ -46,7 +46,7 @@ prefix_typed unary.Flip place (Some t) at s h = holds _ _ _ h
 prefix_typed unary.At place (Some t) at s h = holds _ _ _ h
 
 -- a node that needs a place has one, and its rule is met
-place_right : (place possible : Bool) (at : Place) → place_breaches place possible at ≡ [] → place ≡ true
+pub place_right : (place possible : Bool) (at : Place) → place_breaches place possible at ≡ [] → place ≡ true
 place_right true possible at h = refl
 place_right false possible at h = cc
 
