@@ -51,9 +51,6 @@ steps_read text old new has steps =
       );
     }
 
-pub steps_shorter : (old new : Reader) → Steps old new → length new.rest.now < length old.rest.now
-steps_shorter old new steps = omega (arith, ap length steps.splits ∙ length-append steps.bytes new.rest.now, steps.some)
-
 -- a step over n bytes, in which so much is found: the reader takes it up, and skips them
 pub step_from : (old mid new : Reader) (n : ℕ) (found : Found) → Skips n mid new → mid.rest.now ≡ old.rest.now → mid.spot ≡ old.spot
     → names_of mid.defines ≡ more_definitions found (names_of old.defines) → mid.found.items ≡ more_tokens found old.spot.place old.found.items

@@ -1,12 +1,12 @@
 -- What stands behind the last part of a line.
 use Rattle.std.proofs.Common.{Bool, List, ap, arith, drop, eqb-true, false, length, subst, sym, take, take-append-drop, true, ℕ, ⊎_elim, ◌<◌, ◌∙◌, ◌∷◌, ◌≡◌}
-use Rattle.std.proofs.lemmas.Bool.{both_ways, or_cases}
+use Rattle.std.proofs.lemmas.Bool.{or_cases}
 use Rattle.std.specs.Prelude.{nat_eq}
 use Rattle.c_token.specs.Bytes.{first, is_blank, is_word}
 use Rattle.c_token.specs.Comments.{IsComment, opens_comment}
 use Rattle.c_token.specs.Directives.{IsTail}
 use Rattle.c_token.specs.Fronts.{Takes, TakesNone}
-use Rattle.c_token.proofs.CommentEnds.{comment_first, comment_once, comment_opens}
+use Rattle.c_token.proofs.CommentEnds.{comment_first, comment_once}
 use Rattle.c_token.proofs.Comments.{opened}
 use Rattle.c_token.proofs.Lists.{false_true, uncons}
 use Rattle.c_token.specs.Directives.IsTail.{end, blank, return, comment}
@@ -43,12 +43,6 @@ tail_open may rest opens none (end e) = false_true (ap opens_comment (sym e) ∙
 tail_open may rest opens none (blank b t e i is) = false_true (ap is_blank (sym (opened rest opens).1) ∙ ap (λ l. is_blank (first l)) e ∙ i)
 tail_open may rest opens none (return t e m is) = omega (arith, (opened rest opens).1, ap first e)
 tail_open may rest opens none (comment a t e c is) = none a t e c
-
-pub tail_none : (may : Bool) (rest : List ℕ) → 0 < length rest → is_blank (first rest) ≡ false → (first rest ≡ 13 → may ≡ true → ⊥) → opens_comment rest ≡ false → IsTail may rest → ⊥
-tail_none may rest some h other opens (end e) = omega (arith, ap length e, some)
-tail_none may rest some h other opens (blank b t e i is) = both_ways _ h (ap (λ l. is_blank (first l)) e ∙ i)
-tail_none may rest some h other opens (return t e m is) = other (ap first e) m
-tail_none may rest some h other opens (comment a t e c is) = both_ways _ opens (ap opens_comment e ∙ comment_opens a t c)
 
 pub blank_apart : (b : ℕ) → is_blank b ≡ true → is_word b ≡ false
 blank_apart b h = ⊎_elim (λ e. ap is_word (eqb-true b 32 e)) (λ e. ap is_word (eqb-true b 9 e)) (or_cases (nat_eq b 32) (nat_eq b 9) h)
