@@ -17,10 +17,6 @@ pub data Similar : List Leveled → List Leveled → Type 0 where
   none : Similar [] []
   more : {l : ℕ} {kind : Kind} {p : Place} {a b : List Leveled} (q : Place) → Similar a b → Similar (at l kind p ∷ a) (at l kind q ∷ b)
 
-pub similar_itself : (a : List Leveled) → Similar a a
-similar_itself [] = none
-similar_itself (x ∷ a) = more x.token.place (similar_itself a)
-
 -- behind the same front, all at one place
 abbrev pub placed : Place → List Leveled → List Leveled
 placed q [] = []

@@ -30,6 +30,11 @@ abbrev pub Gives : {X Y : Type 0} → (X → Y × List Token) → Result X Parse
 Gives view (Ok x) read = read ≡ Ok (view x)
 Gives view (Err e) read = Fails e read
 
+-- What a function that takes no memory returned, seen by view, is what reading gives.
+abbrev pub Reads : {X Y : Type 0} → (X → Y × List Token) → Result X ParseFault → Outcome Y → Type 0
+Reads view (Ok x) read = read ≡ Ok (view x)
+Reads view (Err e) read = read ≡ Err e
+
 abbrev pub kind_of : List Token → Kind
 kind_of [] = k.End
 kind_of (x ∷ xs) = x.kind

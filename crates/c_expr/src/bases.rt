@@ -3,7 +3,7 @@
 ghost use Rattle.std.specs.Prelude.{◌≡◌, option_map};
 ghost use Rattle.c_tree.specs.View.{shape};
 ghost use Rattle.c_expr.specs.Next as next;
-ghost use Rattle.c_expr.specs.Next.{Gives};
+ghost use Rattle.c_expr.specs.Next.{Reads};
 ghost use Rattle.c_expr.specs.Spelled as spelled;
 
 use crate::fault::ParseFault;
@@ -34,7 +34,7 @@ pub fn is_base(rest: &[Token]) -> bool
 
 /// A base (C11 6.7.2).
 pub fn base(rest: &[Token], room: u32) -> Result<(CType, &[Token]), ParseFault>
-    ensures { Gives (λ x. (shape x.0, x.1.now)) result (next.base room rest.now) }
+    ensures { Reads (λ x. (shape x.0, x.1.now)) result (next.base room rest.now) }
 {
     if let Some(plain) = plain_base(rest) {
         let (_, rest) = take(rest, room)?;
@@ -48,7 +48,7 @@ pub fn base(rest: &[Token], room: u32) -> Result<(CType, &[Token]), ParseFault>
 }
 
 fn after_unsigned(rest: &[Token], room: u32) -> Result<(CType, &[Token]), ParseFault>
-    ensures { Gives (λ x. (shape x.0, x.1.now)) result (next.after_unsigned (spelled.plain_base (next.kind_of rest.now)) room rest.now) }
+    ensures { Reads (λ x. (shape x.0, x.1.now)) result (next.after_unsigned (spelled.plain_base (next.kind_of rest.now)) room rest.now) }
 {
     if is_word(rest, "int") {
         let (_, rest) = take(rest, room)?;

@@ -5,7 +5,7 @@
 ghost use Rattle.std.specs.Prelude.{◌≡◌, ◌<◌, IfOk};
 ghost use Rattle.c_token.specs.declared.token.Kind.TheVariants as k;
 ghost use Rattle.c_expr.specs.Next as next;
-ghost use Rattle.c_expr.specs.Next.{Gives};
+ghost use Rattle.c_expr.specs.Next.{Reads};
 
 use crate::fault::ParseFault;
 use crate::spelled::is_sign;
@@ -24,7 +24,7 @@ pub fn place_of(rest: &[Token]) -> Place
 
 /// Takes the next token.
 pub fn take(rest: &[Token], room: u32) -> Result<(&Token, &[Token]), ParseFault>
-    ensures value { Gives (λ x. (x.0.now, x.1.now)) result (next.take room rest.now) }
+    ensures value { Reads (λ x. (x.0.now, x.1.now)) result (next.take room rest.now) }
     ensures room { IfOk result (λ _. 0 < room) }
 {
     match rest {
@@ -36,7 +36,7 @@ pub fn take(rest: &[Token], room: u32) -> Result<(&Token, &[Token]), ParseFault>
 
 /// Takes the sign of these bytes.
 pub fn expect(bytes: [u8; 3], rest: &[Token], room: u32) -> Result<(&Token, &[Token]), ParseFault>
-    ensures { Gives (λ x. (x.0.now, x.1.now)) result (next.expect (k.Sign bytes) room rest.now) }
+    ensures { Reads (λ x. (x.0.now, x.1.now)) result (next.expect (k.Sign bytes) room rest.now) }
 {
     if is_sign(rest, bytes) {
         take(rest, room)
