@@ -11,7 +11,7 @@ use Rattle.rv_code.specs.declared.stop.Stop.TheVariants as stop
 use Rattle.rv_code.specs.State.{State, Machine, Running, Stopped, register, with_register}
 use Rattle.rv_code.specs.Table.{instr_of}
 
--- sums are modulo 2^32
+-- sums are modulo 2^32, those of addresses too (chapter 1.4: the address space is circular)
 abbrev pub sum_32 : ℕ → ℕ → ℕ
 sum_32 a b = (a + b) % 2 ^ 32
 
@@ -21,7 +21,7 @@ halts s how = Stopped (record s { count = s.count + 1 }) how
 
 -- a step that goes on at the next instruction
 abbrev pub goes_on : State → Machine
-goes_on s = Running (record s { pc = s.pc + 4; count = s.count + 1 })
+goes_on s = Running (record s { pc = sum_32 s.pc 4; count = s.count + 1 })
 
 -- the same with a register written
 abbrev pub writes : State → ℕ → ℕ → Machine
