@@ -4,6 +4,7 @@ use Rattle.rv_code.specs.declared.call.TheConstants.{A0}
 use Rattle.rv_code.specs.declared.stop.Stop.{Stop}
 use Rattle.rv_code.specs.State as machine
 use Rattle.rv_code.specs.State.{State, Running, Stopped, with_register}
+use Rattle.rv_code.specs.Step.{sum_32}
 use Rattle.bop_top.specs.declared.machine.Machine.{Machine}
 
 -- its state, where it has this memory and has put out these bytes
@@ -17,7 +18,11 @@ stopped_by (Some how) s = Stopped s how
 abbrev pub machine_of : Machine → List ℕ → List ℕ → machine.Machine
 machine_of m memory output = stopped_by m.stop (state_of m memory output)
 
+-- at the next instruction, one step later
+abbrev pub at_next : Machine → Machine
+at_next m = record m { pc = sum_32 m.pc 4; count = m.count + 1 }
+
 -- what call 1 makes of it, where this is the next byte of the input
 abbrev pub got : Machine → Option ℕ → Machine
-got m None = record m { x = with_register m.x A0 (2 ^ 32 - 1); pc = m.pc + 4; count = m.count + 1 }
-got m (Some byte) = record m { x = with_register m.x A0 byte; pc = m.pc + 4; cursor = m.cursor + 1; count = m.count + 1 }
+got m None = at_next (record m { x = with_register m.x A0 (2 ^ 32 - 1) })
+got m (Some byte) = at_next (record m { x = with_register m.x A0 byte; cursor = m.cursor + 1 })

@@ -1,10 +1,9 @@
 // The machine that runs a program in place. None of its instructions reaches its memory yet.
-ghost use Rattle.std.specs.Prelude.{◌≡◌, ◌<◌, ◌≤◌, ◌^◌, ◌+◌, ◌*◌, ◌++◌, [], List, ℕ, None, Some, length, slice_get, IsSome};
+ghost use Rattle.std.specs.Prelude.{◌≡◌, ◌<◌, ◌≤◌, ◌^◌, ◌+◌, ◌++◌, [], List, ℕ, None, Some, length, slice_get};
 ghost use Rattle.std.specs.Option.{option_to_list};
-ghost use Rattle.bop_bits.specs.declared.map.TheConstants.{CODE_WORDS};
 ghost use Rattle.rv_code.specs.State.{Running, start as start_of, register, with_register};
 ghost use Rattle.rv_code.specs.Step.{step as step_of, calls, fetch as word_at};
-ghost use Rattle.bop_top.specs.Machine.{state_of, machine_of, got};
+ghost use Rattle.bop_top.specs.Machine.{state_of, machine_of, at_next, got};
 
 use bop_bits::CODE_FROM;
 use rv_code::{A0, A7, Instr, Program, Stop, Trap, decode};
@@ -37,7 +36,6 @@ impl Machine {
     /// One step. Answers the byte that it puts out.
     pub fn step(&mut self, program: &Program, input: &[u8]) -> Option<u8>
         requires going { self.old.stop ≡ None }
-        requires few { length program.now.code ≤ CODE_WORDS }
         requires short { length input.now ≤ 16777216 }
         requires low { self.old.count < 2 ^ 63 }
         ensures state { (memory output : List ℕ) → step_of program.now.code input.now (Running (state_of self.old memory output))
@@ -69,7 +67,6 @@ impl Machine {
     // A call of the machine.
     fn call(&mut self, input: &[u8]) -> Option<u8>
         requires going { self.old.stop ≡ None }
-        requires near { self.old.pc < 2 ^ 31 }
         requires short { length input.now ≤ 16777216 }
         requires low { self.old.count < 2 ^ 63 }
         ensures state { (memory output : List ℕ) →
@@ -108,7 +105,6 @@ impl Machine {
 
     // Call 1: the next byte of the input, or -1.
     fn get(&mut self, input: &[u8])
-        requires near { self.old.pc < 2 ^ 31 }
         requires short { length input.now ≤ 16777216 }
         requires low { self.old.count < 2 ^ 63 }
         ensures { self.new ≡ got self.old (slice_get input.now self.old.cursor) }
@@ -133,20 +129,18 @@ impl Machine {
 
     // Goes on at the next instruction.
     fn go_on(&mut self)
-        requires near { self.old.pc < 2 ^ 31 }
-        requires low { self.old.count < 2 ^ 63 }
-        ensures { self.new ≡ record self.old { pc = self.old.pc + 4; count = self.old.count + 1 } }
+        requires { self.old.count < 2 ^ 63 }
+        ensures { self.new ≡ at_next self.old }
     {
         self.count += 1;
-        self.pc += 4;
+        self.pc = self.pc.wrapping_add(4);
     }
 
     // Writes a register and goes on at the next instruction.
     fn write(&mut self, rd: u8, value: u32)
-        requires near { self.old.pc < 2 ^ 31 }
         requires low { self.old.count < 2 ^ 63 }
         requires register { rd < 32 }
-        ensures { self.new ≡ record self.old { x = with_register self.old.x rd value; pc = self.old.pc + 4; count = self.old.count + 1 } }
+        ensures { self.new ≡ at_next (record self.old { x = with_register self.old.x rd value }) }
     {
         if rd != 0 {
             self.x[rd as usize] = value;
@@ -165,8 +159,7 @@ impl Machine {
 
 // The word at an address.
 fn fetch(code: &[u32], pc: u32) -> Option<u32>
-    ensures value { result ≡ word_at code.now pc }
-    ensures near { IsSome result → pc < CODE_FROM + 4 * length code.now }
+    ensures { result ≡ word_at code.now pc }
 {
     if pc < CODE_FROM || pc % 4 != 0 {
         return None;

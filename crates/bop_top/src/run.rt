@@ -3,7 +3,6 @@ ghost use Rattle.std.specs.Prelude.{◌≡◌, ◌<◌, ◌≤◌, ◌^◌, ◌+
 ghost use Rattle.std.specs.Io.KnownBytes.{Appends};
 ghost use Rattle.byte_lists.specs.Content.{AppendsPrefix};
 ghost use Rattle.bop_ends.specs.Ends.{HasCause};
-ghost use Rattle.bop_bits.specs.declared.map.TheConstants.{CODE_WORDS};
 ghost use Rattle.rv_code.specs.State.{start, output_of};
 ghost use Rattle.rv_code.specs.Run.{seq};
 ghost use Rattle.bop_top.specs.Machine.{machine_of};
@@ -21,7 +20,6 @@ pub fn run<K: Sink>(
     budget: u64,
     sink: &mut K,
 ) -> Result<Machine, Failed>
-    requires few { length program.now.code ≤ CODE_WORDS }
     requires short { length input.now ≤ 16777216 }
     requires small { budget ≤ 1000000000000 }
     ensures state { IfOk result (λ machine. let end = seq program.now input.now budget in
