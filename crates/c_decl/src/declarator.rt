@@ -2,7 +2,7 @@
 
 ghost use Rattle.std.specs.Prelude.{◌≤◌, [], map, option_map, IfOk};
 ghost use Rattle.c_tree.specs.View as view;
-ghost use Rattle.c_expr.specs.Next.{Gives};
+ghost use Rattle.c_expr.specs.Next.{Gives, Reads};
 ghost use Rattle.c_decl.specs.Reading as read;
 
 use crate::expression::{assign, cond};
@@ -14,7 +14,7 @@ use std::alloc::Global;
 
 /// Stars (C11 6.7.6.1): how many, and the room behind them.
 pub(crate) fn stars(whole: Rest, mut room: u32) -> Result<(u32, u32, Rest), ParseFault>
-    ensures value { Gives (λ x. ((x.0, x.1), x.2.tokens.now)) result (read.stars_from room 0 whole.entry.tokens.now) }
+    ensures value { Reads (λ x. ((x.0, x.1), x.2.tokens.now)) result (read.stars_from room 0 whole.entry.tokens.now) }
     ensures room { IfOk result (λ x. x.1 ≤ room) }
 {
     let mut count = 0;
@@ -102,7 +102,7 @@ fn values(alloc: Global, whole: Rest, room: u32) -> Result<(Vec<Expr>, Rest), Pa
 
 /// What follows a value, and whether that ends the list.
 fn value_end(rest: Rest, room: u32) -> Result<(bool, Rest), ParseFault>
-    ensures { Gives (λ x. (x.0, x.1.tokens.now)) result (read.value_end room rest.entry.tokens.now) }
+    ensures { Reads (λ x. (x.0, x.1.tokens.now)) result (read.value_end room rest.entry.tokens.now) }
 {
     if is_sign(rest.tokens, *b",\0\0") {
         let (_, rest) = take(rest, room)?;

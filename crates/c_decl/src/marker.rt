@@ -1,6 +1,6 @@
 //! Markers.
 
-ghost use Rattle.c_expr.specs.Next.{Gives};
+ghost use Rattle.c_expr.specs.Next.{Gives, Reads};
 ghost use Rattle.c_decl.specs.StatementReading as read;
 
 use crate::declarator::name;
@@ -12,7 +12,7 @@ use std::alloc::Global;
 
 /// A number.
 fn number(rest: Rest, room: u32) -> Result<(u32, Rest), ParseFault>
-    ensures { Gives (λ x. (x.0, x.1.tokens.now)) result (read.number room rest.entry.tokens.now) }
+    ensures { Reads (λ x. (x.0, x.1.tokens.now)) result (read.number room rest.entry.tokens.now) }
 {
     match rest.tokens {
         [
@@ -53,7 +53,7 @@ fn count(alloc: Global, rest: Rest, room: u32) -> Result<(Count, Rest), ParseFau
 
 /// A marker's number, with what stands round it.
 fn numbered(rest: Rest, room: u32) -> Result<(u32, Rest), ParseFault>
-    ensures { Gives (λ x. (x.0, x.1.tokens.now)) result (read.numbered room rest.entry.tokens.now) }
+    ensures { Reads (λ x. (x.0, x.1.tokens.now)) result (read.numbered room rest.entry.tokens.now) }
 {
     let (_, rest) = take(rest, room)?;
     let (_, rest) = expect(*b"(\0\0", rest, room)?;

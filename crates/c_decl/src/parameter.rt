@@ -2,7 +2,7 @@
 
 ghost use Rattle.std.specs.Prelude.{map};
 ghost use Rattle.c_tree.specs.View as view;
-ghost use Rattle.c_expr.specs.Next.{Gives};
+ghost use Rattle.c_expr.specs.Next.{Gives, Reads};
 ghost use Rattle.c_decl.specs.Reading as read;
 
 use crate::declarator::stars;
@@ -14,7 +14,7 @@ use std::alloc::Global;
 
 /// Whether `[]` stands next, which is read.
 fn brackets(rest: Rest, room: u32) -> Result<(bool, Rest), ParseFault>
-    ensures { Gives (λ x. (x.0, x.1.tokens.now)) result (read.brackets room rest.entry.tokens.now) }
+    ensures { Reads (λ x. (x.0, x.1.tokens.now)) result (read.brackets room rest.entry.tokens.now) }
 {
     if is_sign(rest.tokens, *b"[\0\0") {
         let (_, rest) = take(rest, room)?;

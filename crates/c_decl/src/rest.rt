@@ -4,7 +4,7 @@ ghost use Rattle.std.specs.Prelude.{◌≡◌, ◌<◌, IfOk, true};
 ghost use Rattle.c_tree.specs.View as view;
 ghost use Rattle.c_token.specs.declared.token.Kind.TheVariants as k;
 ghost use Rattle.c_expr.specs.Next as next;
-ghost use Rattle.c_expr.specs.Next.{Gives};
+ghost use Rattle.c_expr.specs.Next.{Reads};
 ghost use Rattle.c_decl.specs.Ends as text;
 
 use c_expr::ParseFault;
@@ -20,7 +20,7 @@ pub(crate) struct Rest<'a> {
 
 /// Takes the next token.
 pub(crate) fn take(rest: Rest, room: u32) -> Result<(&Token, Rest), ParseFault>
-    ensures value { Gives (λ x. (x.0.now, x.1.tokens.now)) result (next.take room rest.entry.tokens.now) }
+    ensures value { Reads (λ x. (x.0.now, x.1.tokens.now)) result (next.take room rest.entry.tokens.now) }
     ensures room { IfOk result (λ _. 0 < room) }
 {
     let (first, tokens) = c_expr::take(rest.tokens, room)?;
@@ -29,7 +29,7 @@ pub(crate) fn take(rest: Rest, room: u32) -> Result<(&Token, Rest), ParseFault>
 
 /// Takes the sign of these bytes.
 pub(crate) fn expect(bytes: [u8; 3], rest: Rest, room: u32) -> Result<(&Token, Rest), ParseFault>
-    ensures { Gives (λ x. (x.0.now, x.1.tokens.now)) result (next.expect (k.Sign bytes) room rest.entry.tokens.now) }
+    ensures { Reads (λ x. (x.0.now, x.1.tokens.now)) result (next.expect (k.Sign bytes) room rest.entry.tokens.now) }
 {
     let (first, tokens) = c_expr::expect(bytes, rest.tokens, room)?;
     Ok((first, Rest { tokens }))
@@ -37,7 +37,7 @@ pub(crate) fn expect(bytes: [u8; 3], rest: Rest, room: u32) -> Result<(&Token, R
 
 /// A base (C11 6.7.2).
 pub(crate) fn base(rest: Rest, room: u32) -> Result<(CType, Rest), ParseFault>
-    ensures { Gives (λ x. (view.shape x.0, x.1.tokens.now)) result (next.base room rest.entry.tokens.now) }
+    ensures { Reads (λ x. (view.shape x.0, x.1.tokens.now)) result (next.base room rest.entry.tokens.now) }
 {
     let (base, tokens) = c_expr::base(rest.tokens, room)?;
     Ok((base, Rest { tokens }))

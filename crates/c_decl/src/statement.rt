@@ -4,7 +4,7 @@ ghost use Rattle.std.specs.Prelude.{◌≤◌, map, option_map};
 ghost use Rattle.c_tree.specs.View as view;
 ghost use Rattle.c_token.specs.declared.token.Kind.TheVariants as k;
 ghost use Rattle.c_expr.specs.Next as next;
-ghost use Rattle.c_expr.specs.Next.{Gives};
+ghost use Rattle.c_expr.specs.Next.{Gives, Reads};
 ghost use Rattle.c_decl.specs.StatementReading as read;
 
 use crate::declarator::vars;
@@ -106,7 +106,7 @@ fn marker_at(alloc: Global, place: Place, rest: Rest, room: u32) -> Result<(Stmt
 
 /// An empty statement (C11 6.8.3).
 fn empty(rest: Rest, room: u32) -> Result<(Stmt, Rest), ParseFault>
-    ensures { Gives (λ x. (view.statement x.0, x.1.tokens.now)) result (read.empty room rest.entry.tokens.now) }
+    ensures { Reads (λ x. (view.statement x.0, x.1.tokens.now)) result (read.empty room rest.entry.tokens.now) }
 {
     let (sign, rest) = take(rest, room)?;
     Ok((node::nothing(sign.place), rest))
@@ -124,7 +124,7 @@ fn returned(alloc: Global, rest: Rest, room: u32) -> Result<(Stmt, Rest), ParseF
 
 /// A `break` (C11 6.8.6.3).
 fn broken_out(rest: Rest, room: u32) -> Result<(Stmt, Rest), ParseFault>
-    ensures { Gives (λ x. (view.statement x.0, x.1.tokens.now)) result (read.broken_out room rest.entry.tokens.now) }
+    ensures { Reads (λ x. (view.statement x.0, x.1.tokens.now)) result (read.broken_out room rest.entry.tokens.now) }
 {
     let (word, rest) = take(rest, room)?;
     let (_, rest) = expect(*b";\0\0", rest, room)?;
@@ -133,7 +133,7 @@ fn broken_out(rest: Rest, room: u32) -> Result<(Stmt, Rest), ParseFault>
 
 /// A `continue` (C11 6.8.6.2).
 fn going_on(rest: Rest, room: u32) -> Result<(Stmt, Rest), ParseFault>
-    ensures { Gives (λ x. (view.statement x.0, x.1.tokens.now)) result (read.going_on room rest.entry.tokens.now) }
+    ensures { Reads (λ x. (view.statement x.0, x.1.tokens.now)) result (read.going_on room rest.entry.tokens.now) }
 {
     let (word, rest) = take(rest, room)?;
     let (_, rest) = expect(*b";\0\0", rest, room)?;
@@ -251,7 +251,7 @@ fn expect_word<'a>(
     rest: Rest<'a>,
     room: u32,
 ) -> Result<(&'a Token, Rest<'a>), ParseFault>
-    ensures { Gives (λ x. (x.0.now, x.1.tokens.now)) result (next.expect (k.Reserved word.now) room rest.entry.tokens.now) }
+    ensures { Reads (λ x. (x.0.now, x.1.tokens.now)) result (next.expect (k.Reserved word.now) room rest.entry.tokens.now) }
 {
     if is_word(rest.tokens, word) {
         take(rest, room)
