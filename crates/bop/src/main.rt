@@ -1,11 +1,13 @@
 // The program: the real ends, the top call, and the process's status.
 #![tactic(auto)]
 
+mod words;
+
 use bop_ends::{RealShelf, RealSink, RealSource};
-use bop_top::{Status, bop_main};
+use bop_top::bop_main;
+use std::io;
 use std::process::ExitCode;
-use std::rt::Env;
-use std::{env, io};
+use words::words_of;
 
 fn main(rt: HostRuntime) -> ExitCode {
     let alloc = rt.alloc();
@@ -19,18 +21,4 @@ fn main(rt: HostRuntime) -> ExitCode {
     let mut report = RealSink::new(rt.stderr());
     let (status, _output) = bop_main(alloc, &words, &mut shelf, &mut input, output, &mut report);
     ExitCode::from(status.code())
-}
-
-// The words behind the program's name. Words that are no text ask for nothing that `bop` does.
-fn words_of<R: Env + AllocGlobal>(rt: &R) -> Result<Vec<String>, Status> {
-    let Ok(args) = env::args(rt) else {
-        return Err(Status::BadWords);
-    };
-    let mut words = Vec::new(rt.alloc());
-    for word in args.skip(1) {
-        if words.push(word).is_err() {
-            return Err(Status::OutOfMemory);
-        }
-    }
-    Ok(words)
 }

@@ -12,9 +12,8 @@ use Rattle.low_link.specs.Form.{IsForm}
 use Rattle.low_link.specs.Code.{IsProgramOf}
 use Rattle.low_link.specs.Laws.{Performs}
 use Rattle.low_link.proofs.Simulation.{performs}
-use Rattle.bop_ends.specs.Ends.{IsFront}
 use Rattle.bop_top.specs.declared.machine.Machine.{Machine}
-use Rattle.bop_top.specs.declared.top.TheConstants.{BUDGET, MOST_BYTES, TEXT_BYTES}
+use Rattle.bop_top.specs.declared.top.TheConstants.{BUDGET, TEXT_BYTES}
 use Rattle.bop_top.specs.Headline.{Ran, Exited, OfText}
 use Rattle.bop_top.specs.Machine.{state_of, machine_of}
 use Rattle.bop_top.proofs.Running.{stop_of-stopped_by}
@@ -52,9 +51,10 @@ cast-same : (exit : ℤ) (n : ℕ) → exit ≡ pos n → n < 2 ^ 31 → to_z w3
 cast-same exit n is fits = rw is (grind (arith, ints, common_steps))
 
 -- what is said of a run that has ended with this value
-pub done-says : (file : Option (List ℕ)) (text : List ℕ) (program : Program) (p : IsProgramOf text program) (exit : ℤ) → IsFront file MOST_BYTES text → length text ≤ TEXT_BYTES → exit ≡ p.exit
-    → OfText file (λ text. Ran text (λ m. Exited m (to_z w32 (of_z w32 exit)) (output_of (seq program [] BUDGET))) × IsForm text (output_of (seq program [] BUDGET)) (to_z w32 (of_z w32 exit)))
-done-says file text program p exit front fits same =
+pub done-says : (text : List ℕ) (program : Program) (p : IsProgramOf text program) (exit : ℤ)
+    → length text ≤ TEXT_BYTES → exit ≡ p.exit
+    → OfText (Some text) (λ text. Ran text (λ m. Exited m (to_z w32 (of_z w32 exit)) (output_of (seq program [] BUDGET))) × IsForm text (output_of (seq program [] BUDGET)) (to_z w32 (of_z w32 exit)))
+done-says text program p exit fits same =
     let constant = p.form.returns.constant in
     let value : to_z w32 (of_z w32 exit) ≡ p.exit = ap (λ (x : ℤ). to_z w32 (of_z w32 x)) same ∙ cast-same p.exit _ constant.value constant.fits in
-    rw value (text, front, fits, ((program, p, record { stops = stops text program p; whole = refl }), rw (puts text program p) p.form))
+    rw value (text, refl, fits, ((program, p, record { stops = stops text program p; whole = refl }), rw (puts text program p) p.form))

@@ -1,5 +1,6 @@
 -- What is said of a text that was not loaded, or that was refused.
-use Rattle.std.proofs.Common.{◌≡◌, ◌≤◌, ℕ, List, [], length, Option, None, refl}
+use Rattle.std.proofs.Common.{◌≡◌, ◌<◌, ◌≤◌, ℕ, List, [], length, take, Option, Some, None, refl, sym, ap, ◌∙◌, arith}
+use Rattle.std.proofs.lemmas.List.{length-take, take_all}
 use Rattle.bop_ends.specs.Ends.{IsFront}
 use Rattle.low_link.specs.declared.refused.Refused.{Refused}
 use Rattle.low_link.specs.declared.refused.Refused.TheVariants as r
@@ -11,85 +12,87 @@ use Rattle.low_link.specs.Front as front_of
 use Rattle.low_link.specs.Front.{Refuses, IsAccepted}
 use Rattle.bop_top.specs.declared.status.Status.{Status}
 use Rattle.bop_top.specs.declared.status.Status.TheVariants as status
-use Rattle.bop_top.specs.declared.top.TheConstants.{MOST_BYTES, TEXT_BYTES}
-use Rattle.bop_top.specs.Headline.{SeqSays, CheckSays, MeanSays, IsFine, IsUnloaded, count_told, refused_status}
+use Rattle.bop_top.specs.declared.top.TheConstants.{TEXT_BYTES}
+use Rattle.bop_top.specs.Headline.{SeqSays, SeqTransfers, CheckSays, CheckTransfers, MeanSays, MeanTransfers, IsFine, IsTooLong, IsUnloaded, count_told, refused_status}
 
-pub unloaded_seq : (s : Status) (told : Type 0) (file : Option (List ℕ)) → IsUnloaded s told file → told → SeqSays s file []
-unloaded_seq status.LoadFault told file h here = refl
-unloaded_seq status.OutOfMemory told file h here = refl
-unloaded_seq status.ProgramTooLong told file h here = (h here, refl)
-unloaded_seq (status.Done exit) told file h here = absurd h
-unloaded_seq status.Fine told file h here = absurd h
-unloaded_seq status.BadWords told file h here = absurd h
-unloaded_seq (status.Rejected refused) told file h here = absurd h
-unloaded_seq status.WriteFault told file h here = absurd h
-unloaded_seq status.ReportFault told file h here = absurd h
-unloaded_seq status.NotYetBuilt told file h here = absurd h
-unloaded_seq status.ReadFault told file h here = absurd h
-unloaded_seq status.InputTooLong told file h here = absurd h
-unloaded_seq status.StackFull told file h here = absurd h
-unloaded_seq (status.Undefined act at) told file h here = absurd h
-unloaded_seq status.MoreSteps told file h here = absurd h
+-- fewer bytes than were asked for are the whole file
+pub whole_file : (file : Option (List ℕ)) (most : ℕ) (text : List ℕ) → IsFront file most text
+    → length text < most → file ≡ Some text
+whole_file None most text front few = absurd front
+whole_file (Some bytes) most text front few =
+    let short : length bytes ≤ most = omega (arith, length-take most bytes, ap length front) in
+    ap Some (sym (front ∙ take_all most bytes short))
 
-pub unloaded_check : (s : Status) (told : Type 0) (file : Option (List ℕ)) → IsUnloaded s told file → told → CheckSays s file []
-unloaded_check status.LoadFault told file h here = refl
-unloaded_check status.OutOfMemory told file h here = refl
-unloaded_check status.ProgramTooLong told file h here = (h here, refl)
-unloaded_check (status.Done exit) told file h here = absurd h
-unloaded_check status.Fine told file h here = absurd h
-unloaded_check status.BadWords told file h here = absurd h
-unloaded_check (status.Rejected refused) told file h here = absurd h
-unloaded_check status.WriteFault told file h here = absurd h
-unloaded_check status.ReportFault told file h here = absurd h
-unloaded_check status.NotYetBuilt told file h here = absurd h
-unloaded_check status.ReadFault told file h here = absurd h
-unloaded_check status.InputTooLong told file h here = absurd h
-unloaded_check status.StackFull told file h here = absurd h
-unloaded_check (status.Undefined act at) told file h here = absurd h
-unloaded_check status.MoreSteps told file h here = absurd h
+-- a file whose first bytes are more than a text may have is too long
+pub longer_file : (file : Option (List ℕ)) (most : ℕ) (text : List ℕ) → IsFront file most text
+    → TEXT_BYTES < length text → IsTooLong file
+longer_file None most text front long = absurd front
+longer_file (Some bytes) most text front long =
+    (bytes, refl, omega (arith, length-take most bytes, ap length front))
 
-pub unloaded_mean : (s : Status) (told : Type 0) (file left : Option (List ℕ)) (steps : ℕ) → IsUnloaded s told file → told → MeanSays steps s file [] left []
-unloaded_mean status.LoadFault told file left steps h here = (refl, refl)
-unloaded_mean status.OutOfMemory told file left steps h here = refl
-unloaded_mean status.ProgramTooLong told file left steps h here = ((h here, refl), refl)
-unloaded_mean (status.Done exit) told file left steps h here = absurd h
-unloaded_mean status.Fine told file left steps h here = absurd h
-unloaded_mean status.BadWords told file left steps h here = absurd h
-unloaded_mean (status.Rejected refused) told file left steps h here = absurd h
-unloaded_mean status.WriteFault told file left steps h here = absurd h
-unloaded_mean status.ReportFault told file left steps h here = absurd h
-unloaded_mean status.NotYetBuilt told file left steps h here = absurd h
-unloaded_mean status.ReadFault told file left steps h here = absurd h
-unloaded_mean status.InputTooLong told file left steps h here = absurd h
-unloaded_mean status.StackFull told file left steps h here = absurd h
-unloaded_mean (status.Undefined act at) told file left steps h here = absurd h
-unloaded_mean status.MoreSteps told file left steps h here = absurd h
+module _ (told : Type 0) (file : Option (List ℕ)) where
+  pub unloaded_seq : (s : Status) → IsUnloaded s told file → told → SeqSays s file []
+  unloaded_seq status.LoadFault h here = tt
+  unloaded_seq status.OutOfMemory h here = tt
+  unloaded_seq status.ProgramTooLong h here = h here
+  unloaded_seq _ h here = absurd h
 
--- then no bytes are told
-pub unloaded_untold : (s : Status) (told : Type 0) (file : Option (List ℕ)) → IsUnloaded s told file → None ≡ count_told s 0
-unloaded_untold status.LoadFault told file h = refl
-unloaded_untold status.OutOfMemory told file h = refl
-unloaded_untold status.ProgramTooLong told file h = refl
-unloaded_untold (status.Done exit) told file h = absurd h
-unloaded_untold status.Fine told file h = absurd h
-unloaded_untold status.BadWords told file h = absurd h
-unloaded_untold (status.Rejected refused) told file h = absurd h
-unloaded_untold status.WriteFault told file h = absurd h
-unloaded_untold status.ReportFault told file h = absurd h
-unloaded_untold status.NotYetBuilt told file h = absurd h
-unloaded_untold status.ReadFault told file h = absurd h
-unloaded_untold status.InputTooLong told file h = absurd h
-unloaded_untold status.StackFull told file h = absurd h
-unloaded_untold (status.Undefined act at) told file h = absurd h
-unloaded_untold status.MoreSteps told file h = absurd h
+  pub unloaded_check : (s : Status) → IsUnloaded s told file → told → CheckSays s file
+  unloaded_check status.LoadFault h here = tt
+  unloaded_check status.OutOfMemory h here = tt
+  unloaded_check status.ProgramTooLong h here = h here
+  unloaded_check _ h here = absurd h
 
-pub refused_says : (file : Option (List ℕ)) (text : List ℕ) (refused : Refused) → IsFront file MOST_BYTES text → length text ≤ TEXT_BYTES → Refuses text refused → CheckSays (refused_status refused) file []
-refused_says file text (r.Token fault) front fits h = ((text, front, fits, (h, tt)), refl)
-refused_says file text (r.Parse fault) front fits h = ((text, front, fits, (h, tt)), refl)
-refused_says file text (r.Check fault) front fits h = ((text, front, fits, (h, tt)), refl)
-refused_says file text (r.Layout fault) front fits h = ((text, front, fits, (h, tt)), refl)
-refused_says file text r.NotYetBuilt front fits h = absurd h
-refused_says file text r.OutOfMemory front fits h = refl
+  pub unloaded_mean : (steps : ℕ) (s : Status) → IsUnloaded s told file → told → MeanSays steps s file [] []
+  unloaded_mean steps status.LoadFault h here = tt
+  unloaded_mean steps status.OutOfMemory h here = tt
+  unloaded_mean steps status.ProgramTooLong h here = h here
+  unloaded_mean steps _ h here = absurd h
+
+  -- nothing is written then
+  pub seq_stands : (s : Status) → IsUnloaded s told file → SeqTransfers s []
+  seq_stands status.LoadFault h = refl
+  seq_stands status.OutOfMemory h = refl
+  seq_stands status.ProgramTooLong h = refl
+  seq_stands _ h = absurd h
+
+  pub check_stands : (s : Status) → IsUnloaded s told file → CheckTransfers s []
+  check_stands status.LoadFault h = refl
+  check_stands status.OutOfMemory h = refl
+  check_stands status.ProgramTooLong h = refl
+  check_stands _ h = absurd h
+
+  -- nor anything taken
+  pub mean_stands : (left : Option (List ℕ)) (s : Status) → IsUnloaded s told file → MeanTransfers s [] left []
+  mean_stands left status.LoadFault h = (refl, refl)
+  mean_stands left status.OutOfMemory h = refl
+  mean_stands left status.ProgramTooLong h = (refl, refl)
+  mean_stands left _ h = absurd h
+
+  -- and no bytes are told
+  pub unloaded_untold : (s : Status) → IsUnloaded s told file → None ≡ count_told s 0
+  unloaded_untold status.LoadFault h = refl
+  unloaded_untold status.OutOfMemory h = refl
+  unloaded_untold status.ProgramTooLong h = refl
+  unloaded_untold _ h = absurd h
+
+pub refused_says : (text : List ℕ) (refused : Refused) → length text ≤ TEXT_BYTES
+    → Refuses text refused → CheckSays (refused_status refused) (Some text)
+refused_says text (r.Token fault) fits h = (text, refl, fits, h)
+refused_says text (r.Parse fault) fits h = (text, refl, fits, h)
+refused_says text (r.Check fault) fits h = (text, refl, fits, h)
+refused_says text (r.Layout fault) fits h = (text, refl, fits, h)
+refused_says text r.NotYetBuilt fits h = absurd h
+refused_says text r.OutOfMemory fits h = tt
+
+pub refused_stands : (text : List ℕ) (refused : Refused) → Refuses text refused
+    → CheckTransfers (refused_status refused) []
+refused_stands text (r.Token fault) h = (tt, refl)
+refused_stands text (r.Parse fault) h = (tt, refl)
+refused_stands text (r.Check fault) h = (tt, refl)
+refused_stands text (r.Layout fault) h = (tt, refl)
+refused_stands text r.NotYetBuilt h = absurd h
+refused_stands text r.OutOfMemory h = refl
 
 pub accepted_of : (text : List ℕ) (checked : Checked) (laid : Layout) → front_of.IsFront text checked laid → IsAccepted text (parts checked.tree)
 accepted_of text checked laid h = record { spells = h.spells; faultless = faultless checked.tree checked.accepted }
@@ -97,5 +100,6 @@ accepted_of text checked laid h = record { spells = h.spells; faultless = faultl
 pub fine_of : (text : List ℕ) (checked : Checked) (laid : Layout) → front_of.IsFront text checked laid → IsFine text
 fine_of text checked laid h = (parts checked.tree, accepted_of text checked laid h, h.fits)
 
-pub fine_says : (file : Option (List ℕ)) (text : List ℕ) (checked : Checked) (laid : Layout) → IsFront file MOST_BYTES text → length text ≤ TEXT_BYTES → front_of.IsFront text checked laid → CheckSays status.Fine file []
-fine_says file text checked laid front fits h = ((text, front, fits, fine_of text checked laid h), refl)
+pub fine_says : (text : List ℕ) (checked : Checked) (laid : Layout) → length text ≤ TEXT_BYTES
+    → front_of.IsFront text checked laid → CheckSays status.Fine (Some text)
+fine_says text checked laid fits h = (text, refl, fits, fine_of text checked laid h)

@@ -1,6 +1,6 @@
 -- Words ask for one thing at most.
 use Rattle.std.proofs.Common.{◌≡◌, ℕ, List, [], ◌∷◌, drop, get_or, sym, ◌∙◌, ap, ap₂, subst, arith}
-use Rattle.bop_top.specs.Words.{Request, Seq, Check, Mean, IsRequest, HasBudget, AsksMean}
+use Rattle.bop_top.specs.Words.{Request, Seq, Check, Mean, IsRequest, HasBudget, AsksMean, AsksNothing}
 
 -- the first letter of the first word
 abbrev initial : List (List ℕ) → ℕ
@@ -26,7 +26,12 @@ one_request words (Mean a m) (Seq b) h k = let e : 109 ≡ 115 = ap initial (sym
 one_request words (Check a) (Mean b n) h k = let e : 99 ≡ 109 = ap initial (sym h.0 ∙ k.1) in absurd (omega (arith, e))
 one_request words (Mean a m) (Check b) h k = let e : 109 ≡ 99 = ap initial (sym h.1 ∙ k.0) in absurd (omega (arith, e))
 
-pub no_meaning : (words : List (List ℕ)) → ((request : Request) → IsRequest words request → ⊥) → AsksMean words → ⊥
+-- what holds of what the words ask for holds of each request that they make
+pub of_each : (words : List (List ℕ)) (asked : Request) → IsRequest words asked → (P : Request → Type 0)
+    → P asked → (request : Request) → IsRequest words request → P request
+of_each words asked here P p request h = subst P (one_request words asked request here h) p
+
+pub no_meaning : (words : List (List ℕ)) → AsksNothing words → AsksMean words → ⊥
 no_meaning words none (name, steps, asked) = none (Mean name steps) asked
 
 pub seq_asks_no_meaning : (words : List (List ℕ)) (program : List ℕ) → IsRequest words (Seq program) → AsksMean words → ⊥

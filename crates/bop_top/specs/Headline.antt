@@ -1,8 +1,8 @@
 -- What the top call promises: a row for each status.
-use Rattle.std.specs.Prelude.{◌≡◌, ◌≤◌, ◌<◌, length, ℕ, ℤ, Bool, IsTrue, List, [], Option, Some, None}
+use Rattle.std.specs.Prelude.{◌≡◌, ◌≤◌, ◌<◌, length, ℕ, ℤ, Bool, IsTrue, List, [], Option, Some, None, ⊤}
 use Rattle.std.specs.Io.KnownBytes.{Appends, Consumes, IsAtEnd}
 use Rattle.byte_lists.specs.Prefix.{IsPrefix}
-use Rattle.bop_ends.specs.Ends.{Rose, IsFront}
+use Rattle.bop_ends.specs.Ends.{Rose}
 use Rattle.rv_code.specs.declared.program.Program.{Program}
 use Rattle.rv_code.specs.declared.stop.Stop.TheVariants.{Exit}
 use Rattle.rv_code.specs.State.{Machine, stop_of, output_of}
@@ -21,17 +21,17 @@ use Rattle.low_link.specs.declared.refused.Refused.TheVariants as refused
 use Rattle.bop_top.specs.declared.status.Status.{Status}
 use Rattle.bop_top.specs.declared.status.Status.TheVariants.{Done, Fine, BadWords, LoadFault, ProgramTooLong, Rejected, ReadFault, InputTooLong, StackFull, Undefined, MoreSteps, WriteFault, ReportFault, OutOfMemory, NotYetBuilt}
 use Rattle.bop_top.specs.declared.input.TheConstants.{INPUT_BYTES}
-use Rattle.bop_top.specs.declared.top.TheConstants.{BUDGET, MOST_BYTES, TEXT_BYTES}
+use Rattle.bop_top.specs.declared.top.TheConstants.{BUDGET, TEXT_BYTES}
 use Rattle.bop_top.specs.Report.{Reported}
-use Rattle.bop_top.specs.Words.{Request, Seq, Check, Mean, IsRequest, AsksMean, name_of}
+use Rattle.bop_top.specs.Words.{Request, Seq, Check, Mean, IsRequest, AsksMean, AsksNothing, name_of}
 
--- P holds of the text that is loaded, the first bytes of the file, which is no longer than a text may be
+-- there is a file, it is no longer than a text may be, and P holds of it
 abbrev pub OfText : Option (List ℕ) → (List ℕ → Type 0) → Type 0
-OfText file P = (text : List ℕ) × IsFront file MOST_BYTES text × (length text ≤ TEXT_BYTES) × P text
+OfText file P = (text : List ℕ) × (file ≡ Some text) × (length text ≤ TEXT_BYTES) × P text
 
--- the text is longer
+-- there is a file, and it is longer than a text may be
 abbrev pub IsTooLong : Option (List ℕ) → Type 0
-IsTooLong file = (text : List ℕ) × IsFront file MOST_BYTES text × (TEXT_BYTES < length text)
+IsTooLong file = (text : List ℕ) × (file ≡ Some text) × (TEXT_BYTES < length text)
 
 -- P holds of the machine that has run the text's program for as many steps as the budget has
 abbrev pub Ran : List ℕ → (Machine → Type 0) → Type 0
@@ -46,45 +46,47 @@ pub record Exited (m : Machine) (exit : ℤ) (written : List ℕ) : Type 0 where
 abbrev pub IsNotBuilt : List ℕ → Type 0
 IsNotBuilt text = (characters : List ℕ) (exit : ℤ) → IsForm text characters exit → ⊥
 
--- what the status of a sequential run says of the program's file and of the bytes written
+-- what the status of a sequential run says of the program's file, where these bytes were written;
+-- a status without a row says nothing of it
 abbrev pub SeqSays : Status → Option (List ℕ) → List ℕ → Type 0
-SeqSays (Done exit) file written = OfText file (λ text. Ran text (λ m. Exited m exit written) × IsForm text written exit)
+SeqSays (Done exit) file written =
+    OfText file (λ text. Ran text (λ m. Exited m exit written) × IsForm text written exit)
 SeqSays WriteFault file written = OfText file (λ text. Ran text (λ m. IsPrefix written (output_of m)))
-SeqSays NotYetBuilt file written = OfText file IsNotBuilt × (written ≡ [])
-SeqSays ProgramTooLong file written = IsTooLong file × (written ≡ [])
-SeqSays LoadFault file written = written ≡ []
-SeqSays OutOfMemory file written = written ≡ []
-SeqSays BadWords file written = ⊥
-SeqSays ReportFault file written = ⊥
-SeqSays Fine file written = ⊥
-SeqSays (Rejected refused) file written = ⊥
-SeqSays ReadFault file written = ⊥
-SeqSays InputTooLong file written = ⊥
-SeqSays StackFull file written = ⊥
-SeqSays (Undefined act at) file written = ⊥
-SeqSays MoreSteps file written = ⊥
+SeqSays NotYetBuilt file written = OfText file IsNotBuilt
+SeqSays ProgramTooLong file written = IsTooLong file
+SeqSays _ file written = ⊤
+
+-- what the status of a sequential run says of the bytes written, whatever the file; a status
+-- without a row never comes
+abbrev pub SeqTransfers : Status → List ℕ → Type 0
+SeqTransfers (Done exit) written = ⊤
+SeqTransfers WriteFault written = ⊤
+SeqTransfers NotYetBuilt written = written ≡ []
+SeqTransfers ProgramTooLong written = written ≡ []
+SeqTransfers LoadFault written = written ≡ []
+SeqTransfers OutOfMemory written = written ≡ []
+SeqTransfers _ written = ⊥
 
 -- the text is one of the language, and its objects fit into the memory
 abbrev pub IsFine : List ℕ → Type 0
 IsFine text = (ps : List Part) × IsAccepted text ps × Fits ps
 
--- what the status of a check says of them; nothing is written
-abbrev pub CheckSays : Status → Option (List ℕ) → List ℕ → Type 0
-CheckSays Fine file written = OfText file IsFine × (written ≡ [])
-CheckSays (Rejected refused) file written = OfText file (λ text. Refuses text refused × IsRejection refused) × (written ≡ [])
-CheckSays ProgramTooLong file written = IsTooLong file × (written ≡ [])
-CheckSays LoadFault file written = written ≡ []
-CheckSays OutOfMemory file written = written ≡ []
-CheckSays (Done exit) file written = ⊥
-CheckSays WriteFault file written = ⊥
-CheckSays NotYetBuilt file written = ⊥
-CheckSays BadWords file written = ⊥
-CheckSays ReportFault file written = ⊥
-CheckSays ReadFault file written = ⊥
-CheckSays InputTooLong file written = ⊥
-CheckSays StackFull file written = ⊥
-CheckSays (Undefined act at) file written = ⊥
-CheckSays MoreSteps file written = ⊥
+-- what the status of a check says of the program's file; a status without a row says nothing of it
+abbrev pub CheckSays : Status → Option (List ℕ) → Type 0
+CheckSays Fine file = OfText file IsFine
+CheckSays (Rejected refused) file = OfText file (λ text. Refuses text refused)
+CheckSays ProgramTooLong file = IsTooLong file
+CheckSays _ file = ⊤
+
+-- what the status of a check says of the bytes written, whatever the file: there are none; a status
+-- without a row never comes
+abbrev pub CheckTransfers : Status → List ℕ → Type 0
+CheckTransfers Fine written = written ≡ []
+CheckTransfers (Rejected refused) written = IsRejection refused × (written ≡ [])
+CheckTransfers ProgramTooLong written = written ≡ []
+CheckTransfers LoadFault written = written ≡ []
+CheckTransfers OutOfMemory written = written ≡ []
+CheckTransfers _ written = ⊥
 
 -- P holds of what the text means with this input within so many steps, where each marker is the empty statement
 abbrev pub Means : List ℕ → List ℕ → ℕ → (Meaning → Type 0) → Type 0
@@ -95,9 +97,9 @@ pub record IsInput (taken : List ℕ) (left : Option (List ℕ)) : Type 0 where
   pub few : length taken ≤ INPUT_BYTES
   pub end : IsAtEnd left
 
--- P holds of what the file's text means with the whole input within so many steps
-abbrev pub Meant : ℕ → Option (List ℕ) → List ℕ → Option (List ℕ) → (Meaning → Type 0) → Type 0
-Meant steps file taken left P = OfText file (λ text. Means text taken steps P) × IsInput taken left
+-- P holds of what the file's text means with this input within so many steps
+abbrev pub Meant : ℕ → Option (List ℕ) → List ℕ → (Meaning → Type 0) → Type 0
+Meant steps file input P = OfText file (λ text. Means text input steps P)
 
 -- what the status says of a meaning whose output was to be written, and of the bytes written
 abbrev pub Puts : Status → List ℕ → Meaning → Type 0
@@ -108,29 +110,50 @@ Puts MoreSteps written m = m ≡ meaning.More' written
 Puts WriteFault written m = IsPrefix written (told.output_of m)
 Puts _ written m = ⊥
 
--- what the status of a meaning says of the file, of the bytes taken from the input, of what is left there and of the bytes written
-abbrev pub MeanSays : ℕ → Status → Option (List ℕ) → List ℕ → Option (List ℕ) → List ℕ → Type 0
-MeanSays steps (Done exit) file taken left written = Meant steps file taken left (Puts (Done exit) written)
-MeanSays steps StackFull file taken left written = Meant steps file taken left (Puts StackFull written)
-MeanSays steps (Undefined act at) file taken left written = Meant steps file taken left (Puts (Undefined act at) written)
-MeanSays steps MoreSteps file taken left written = Meant steps file taken left (Puts MoreSteps written)
-MeanSays steps WriteFault file taken left written = Meant steps file taken left (Puts WriteFault written)
-MeanSays steps InputTooLong file taken left written = OfText file IsFine × (INPUT_BYTES < length taken) × (written ≡ [])
-MeanSays steps ReadFault file taken left written = OfText file IsFine × (written ≡ [])
-MeanSays steps OutOfMemory file taken left written = written ≡ []
-MeanSays steps (Rejected refused) file taken left written = CheckSays (Rejected refused) file written × (taken ≡ [])
-MeanSays steps ProgramTooLong file taken left written = CheckSays ProgramTooLong file written × (taken ≡ [])
-MeanSays steps LoadFault file taken left written = CheckSays LoadFault file written × (taken ≡ [])
-MeanSays steps Fine file taken left written = ⊥
-MeanSays steps NotYetBuilt file taken left written = ⊥
-MeanSays steps BadWords file taken left written = ⊥
-MeanSays steps ReportFault file taken left written = ⊥
+-- what the status of a meaning says of the program's file, where these bytes were taken and written;
+-- a status without a row says nothing of it
+abbrev pub MeanSays : ℕ → Status → Option (List ℕ) → List ℕ → List ℕ → Type 0
+MeanSays steps (Done exit) file taken written = Meant steps file taken (Puts (Done exit) written)
+MeanSays steps StackFull file taken written = Meant steps file taken (Puts StackFull written)
+MeanSays steps (Undefined act at) file taken written =
+    Meant steps file taken (Puts (Undefined act at) written)
+MeanSays steps MoreSteps file taken written = Meant steps file taken (Puts MoreSteps written)
+MeanSays steps WriteFault file taken written = Meant steps file taken (Puts WriteFault written)
+MeanSays steps InputTooLong file taken written = OfText file IsFine
+MeanSays steps ReadFault file taken written = OfText file IsFine
+MeanSays steps (Rejected refused) file taken written = OfText file (λ text. Refuses text refused)
+MeanSays steps ProgramTooLong file taken written = IsTooLong file
+MeanSays steps _ file taken written = ⊤
 
--- what the status with which a command has ended says of them
-abbrev pub Says : Request → Status → Option (List ℕ) → List ℕ → Option (List ℕ) → List ℕ → Type 0
-Says (Seq name) status file taken left written = SeqSays status file written × (taken ≡ [])
-Says (Check name) status file taken left written = CheckSays status file written × (taken ≡ [])
-Says (Mean name steps) status file taken left written = MeanSays steps status file taken left written
+-- what the status of a meaning says of the bytes taken, of what is left of the input and of the
+-- bytes written, whatever the file; a status without a row never comes
+abbrev pub MeanTransfers : Status → List ℕ → Option (List ℕ) → List ℕ → Type 0
+MeanTransfers (Done exit) taken left written = IsInput taken left
+MeanTransfers StackFull taken left written = IsInput taken left
+MeanTransfers (Undefined act at) taken left written = IsInput taken left
+MeanTransfers MoreSteps taken left written = IsInput taken left
+MeanTransfers WriteFault taken left written = IsInput taken left
+MeanTransfers InputTooLong taken left written = (INPUT_BYTES < length taken) × (written ≡ [])
+MeanTransfers ReadFault taken left written = written ≡ []
+MeanTransfers OutOfMemory taken left written = written ≡ []
+MeanTransfers (Rejected refused) taken left written =
+    IsRejection refused × (taken ≡ []) × (written ≡ [])
+MeanTransfers ProgramTooLong taken left written = (taken ≡ []) × (written ≡ [])
+MeanTransfers LoadFault taken left written = (taken ≡ []) × (written ≡ [])
+MeanTransfers _ taken left written = ⊥
+
+-- what the status with which a command has ended says of the program's file
+abbrev pub Says : Request → Status → Option (List ℕ) → List ℕ → List ℕ → Type 0
+Says (Seq name) status file taken written = SeqSays status file written
+Says (Check name) status file taken written = CheckSays status file
+Says (Mean name steps) status file taken written = MeanSays steps status file taken written
+
+-- what it says of the bytes taken, of what is left of the input and of the bytes written, whatever
+-- the file and whether or not the shelf tells it
+abbrev pub Transfers : Request → Status → List ℕ → Option (List ℕ) → List ℕ → Type 0
+Transfers (Seq name) status taken left written = SeqTransfers status written × (taken ≡ [])
+Transfers (Check name) status taken left written = CheckTransfers status written × (taken ≡ [])
+Transfers (Mean name steps) status taken left written = MeanTransfers status taken left written
 
 -- how often the ends of a command have failed
 pub record Faults : Type 0 where
@@ -214,23 +237,29 @@ pub record HasPut (m : Meaning) (status : Status) (bytes : Option ℕ) (old new 
   pub puts : Puts status written m
   pub counted : bytes ≡ count_told status (length written)
 
--- a text was evaluated, which is the text of each file of which P holds
-pub record HasMeant (steps : ℕ) (P : Option (List ℕ) → Type 0) (status : Status) (bytes : Option ℕ) (input left old new : Option (List ℕ)) : Type 0 where
+-- a text was evaluated, which is the file where the file is told
+pub record HasMeant (steps : ℕ) (told : Type 0) (file : Option (List ℕ)) (status : Status)
+    (bytes : Option ℕ) (input left old new : Option (List ℕ)) : Type 0 where
   pub taken : List ℕ
   pub written : List ℕ
   pub takes : Consumes input left taken
   pub writes : Appends old new written
-  pub says : (file : Option (List ℕ)) → P file → MeanSays steps status file taken left written
+  pub transfers : MeanTransfers status taken left written
+  pub says : told → MeanSays steps status file taken written
   pub counted : bytes ≡ count_told status (length written)
 
--- what a command has done that ends with this status: which bytes it took and wrote, and how many it reports
+-- what a command has done that ends with this status: which bytes it took and wrote, how many it
+-- reports, which end has failed, and what all that says of the file where the shelf tells it
 pub record Ended (words : List (List ℕ)) (old new : Ends) (status : Status) (bytes : Option ℕ) : Type 0 where
   pub taken : List ℕ
   pub written : List ℕ
   pub takes : Consumes old.input new.input taken
   pub writes : Appends old.output new.output written
+  pub transfers : (request : Request) → IsRequest words request
+      → Transfers request status taken new.input written
+  pub idle : AsksNothing words → (taken ≡ []) × (written ≡ [])
   pub says : IsTrue old.tells → (request : Request) → IsRequest words request
-      → Says request status (old.file (name_of request)) taken new.input written
+      → Says request status (old.file (name_of request)) taken written
   pub counts : Counts status old.faults new.faults
   pub counted : AsksMean words → bytes ≡ count_told status (length written)
   pub uncounted : (AsksMean words → ⊥) → bytes ≡ None

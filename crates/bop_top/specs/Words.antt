@@ -51,6 +51,10 @@ IsRequest words (Seq name) = (words ≡ codes "seq" ∷ name ∷ []) × IsName n
 IsRequest words (Check name) = (words ≡ codes "check" ∷ name ∷ []) × IsName name
 IsRequest words (Mean name budget) = (options : List (List ℕ)) × (words ≡ codes "mean" ∷ name ∷ options) × IsName name × HasBudget options budget
 
+-- they ask for nothing
+abbrev pub AsksNothing : List (List ℕ) → Type 0
+AsksNothing words = (request : Request) → IsRequest words request → ⊥
+
 -- they ask for the meaning of a program
 abbrev pub AsksMean : List (List ℕ) → Type 0
 AsksMean words = (name : List ℕ) × (budget : ℕ) × IsRequest words (Mean name budget)

@@ -1,8 +1,8 @@
 // What a text means, and its output on the way to the sink.
-ghost use Rattle.std.specs.Prelude.{◌≡◌, ◌≤◌, ℕ, List, Option, length, IfOk, OnOk, OnErr, IfErr};
+ghost use Rattle.std.specs.Prelude.{◌≡◌, ◌≤◌, ℕ, List, Some, ⊤, length, IfOk, OnOk, OnErr, IfErr};
 ghost use Rattle.std.specs.Io.KnownBytes.{Appends, Consumes};
 ghost use Rattle.byte_lists.specs.Content.{AppendsPrefix};
-ghost use Rattle.bop_ends.specs.Ends.{HasCause, IsFront};
+ghost use Rattle.bop_ends.specs.Ends.{HasCause};
 ghost use Rattle.c_layout.specs.Laid.{plan};
 ghost use Rattle.c_layout.specs.Outcome.{plan_of};
 ghost use Rattle.c_meaning.specs.Answer.{meaning_of};
@@ -12,7 +12,7 @@ ghost use Rattle.c_tree.specs.Erase.{erased_text};
 ghost use Rattle.c_tree.specs.View.{parts};
 ghost use Rattle.bop_top.specs.Headline.{Means, IsInput, IsUnmeant, HasPut, HasMeant, Counts, meaning_status};
 ghost use Rattle.bop_top.specs.declared.status.Status.TheVariants.{BadWords};
-ghost use Rattle.bop_top.specs.declared.top.TheConstants.{TEXT_BYTES, MOST_BYTES};
+ghost use Rattle.bop_top.specs.declared.top.TheConstants.{TEXT_BYTES};
 
 use crate::Status;
 use crate::ending::Ending;
@@ -34,7 +34,7 @@ pub fn mean_text<S: Source, K: Sink>(
     output: &mut K,
 ) -> Ending
     requires { length text.now ≤ TEXT_BYTES }
-    ensures meant { HasMeant steps (λ file. IsFront file MOST_BYTES text.now) result.status result.bytes
+    ensures meant { HasMeant steps ⊤ (Some text.now) result.status result.bytes
         (S.left input.old) (S.left input.new) (K.content output.old) (K.content output.new) }
     ensures words { result.status ≡ BadWords → ⊥ }
     ensures counts { (h : ℕ) → Counts result.status

@@ -1,10 +1,9 @@
 // The top call.
-ghost use Rattle.std.specs.Prelude.{◌≡◌, ◌↔◌, ◌≤◌, [], length, IfOk, OnOk, IfErr, List, ℕ, ℤ, Some, Option, map, string_bytes, IsTrue};
-ghost use Rattle.std.specs.Io.KnownBytes.{Appends, Keeps};
-ghost use Rattle.bop_top.specs.Words.{Request, IsRequest, AsksMean};
-ghost use Rattle.bop_top.specs.Headline.{Course, Ended, HasMeant, SeqSays, CheckSays, Counts, IsUnloaded, refused_status};
+ghost use Rattle.std.specs.Prelude.{◌≡◌, ◌↔◌, ◌≤◌, [], length, IfOk, OnOk, IfErr, List, ℕ, ℤ, Some, map, string_bytes, IsTrue};
+ghost use Rattle.std.specs.Io.KnownBytes.{Appends};
+ghost use Rattle.bop_top.specs.Words.{AsksMean, AsksNothing};
+ghost use Rattle.bop_top.specs.Headline.{Course, Ended, HasMeant, SeqSays, SeqTransfers, CheckSays, CheckTransfers, Counts, IsUnloaded, refused_status};
 ghost use Rattle.bop_top.specs.declared.status.Status.TheVariants.{BadWords};
-ghost use Rattle.bop_ends.specs.Ends.{IsFront};
 
 use crate::Status;
 use crate::ending::Ending;
@@ -60,10 +59,8 @@ pub fn bop_main<S: Source, K: Sink, R: Sink, H: Shelf>(
         (record { content = R.content report.old; faults = R.faults report.old })
         (record { content = R.content report.new; faults = R.faults report.new })
         result.0 }
-    ensures bad_words { (result.0 ≡ BadWords) ↔ ((request : Request) → IsRequest (map string_bytes words.now) request → ⊥) }
-    ensures nothing { result.0 ≡ BadWords → Keeps (K.content output) (K.content result.1) }
-    ensures unread { (AsksMean (map string_bytes words.now) → ⊥)
-        → (S.left input.new ≡ S.left input.old) × (S.faults input.new ≡ S.faults input.old) }
+    ensures bad_words { (result.0 ≡ BadWords) ↔ AsksNothing (map string_bytes words.now) }
+    ensures unread { (AsksMean (map string_bytes words.now) → ⊥) → input.new ≡ input.old }
     ensures tells { H.tells shelf.new ≡ H.tells shelf.old }
     ensures files { H.file shelf.new ≡ H.file shelf.old }
 {
@@ -96,10 +93,8 @@ fn command<S: Source, K: Sink, H: Shelf>(
           faults = record { shelf = H.faults shelf.new; input = S.faults input.new; output = K.faults output.new };
         })
         result.status result.bytes }
-    ensures bad_words { (result.status ≡ BadWords) ↔ ((request : Request) → IsRequest (map string_bytes words.now) request → ⊥) }
-    ensures nothing { result.status ≡ BadWords → Keeps (K.content output.old) (K.content output.new) }
-    ensures unread { (AsksMean (map string_bytes words.now) → ⊥)
-        → (S.left input.new ≡ S.left input.old) × (S.faults input.new ≡ S.faults input.old) }
+    ensures bad_words { (result.status ≡ BadWords) ↔ AsksNothing (map string_bytes words.now) }
+    ensures unread { (AsksMean (map string_bytes words.now) → ⊥) → input.new ≡ input.old }
     ensures tells { H.tells shelf.new ≡ H.tells shelf.old }
     ensures files { H.file shelf.new ≡ H.file shelf.old }
 {
@@ -113,7 +108,8 @@ fn command<S: Source, K: Sink, H: Shelf>(
 
 // Loads a text.
 fn load<H: Shelf>(alloc: Global, name: &str, shelf: &mut H) -> Result<Vec<u8>, Status>
-    ensures text { IsTrue (H.tells shelf.old) → IfOk result (λ text. IsFront (H.file shelf.old name.now) MOST_BYTES text.items) }
+    ensures text { IsTrue (H.tells shelf.old)
+        → IfOk result (λ text. H.file shelf.old name.now ≡ Some text.items) }
     ensures fits { IfOk result (λ text. length text.items ≤ TEXT_BYTES) }
     ensures refused { IfErr result (λ status. IsUnloaded status (IsTrue (H.tells shelf.old)) (H.file shelf.old name.now)) }
     ensures loaded { OnOk result (H.faults shelf.new ≡ H.faults shelf.old) }
@@ -133,6 +129,7 @@ fn load<H: Shelf>(alloc: Global, name: &str, shelf: &mut H) -> Result<Vec<u8>, S
 // Loads a program and runs it.
 fn seq<K: Sink, H: Shelf>(alloc: Global, name: &str, shelf: &mut H, output: &mut K) -> Status
     ensures says { (written : List ℕ) × Appends (K.content output.old) (K.content output.new) written
+        × SeqTransfers result written
         × (IsTrue (H.tells shelf.old) → SeqSays result (H.file shelf.old name.now) written) }
     ensures words { result ≡ BadWords → ⊥ }
     ensures counts { (i : ℕ) → Counts result
@@ -149,7 +146,8 @@ fn seq<K: Sink, H: Shelf>(alloc: Global, name: &str, shelf: &mut H, output: &mut
 
 // Loads a program and checks it.
 fn check<H: Shelf>(alloc: Global, name: &str, shelf: &mut H) -> Status
-    ensures says { IsTrue (H.tells shelf.old) → CheckSays result (H.file shelf.old name.now) [] }
+    ensures transfers { CheckTransfers result [] }
+    ensures says { IsTrue (H.tells shelf.old) → CheckSays result (H.file shelf.old name.now) }
     ensures words { result ≡ BadWords → ⊥ }
     ensures counts { (i o : ℕ) → Counts result (record { shelf = H.faults shelf.old; input = i; output = o }) (record { shelf = H.faults shelf.new; input = i; output = o }) }
     ensures tells { H.tells shelf.new ≡ H.tells shelf.old }
@@ -170,7 +168,8 @@ fn mean<S: Source, K: Sink, H: Shelf>(
     input: &mut S,
     output: &mut K,
 ) -> Ending
-    ensures meant { HasMeant steps (λ file. IsTrue (H.tells shelf.old) × (file ≡ H.file shelf.old name.now)) result.status result.bytes
+    ensures meant { HasMeant steps (IsTrue (H.tells shelf.old)) (H.file shelf.old name.now)
+        result.status result.bytes
         (S.left input.old) (S.left input.new) (K.content output.old) (K.content output.new) }
     ensures words { result.status ≡ BadWords → ⊥ }
     ensures counts { Counts result.status
@@ -188,7 +187,8 @@ fn mean<S: Source, K: Sink, H: Shelf>(
 // Checks a text.
 fn check_text(alloc: Global, text: &[u8]) -> Status
     requires { length text.now ≤ TEXT_BYTES }
-    ensures says { (file : Option (List ℕ)) → IsFront file MOST_BYTES text.now → CheckSays result file [] }
+    ensures transfers { CheckTransfers result [] }
+    ensures says { CheckSays result (Some text.now) }
     ensures words { result ≡ BadWords → ⊥ }
     ensures counts { (h i o : ℕ) → Counts result (record { shelf = h; input = i; output = o }) (record { shelf = h; input = i; output = o }) }
 {
@@ -214,7 +214,7 @@ pub fn status_of(refused: Refused) -> Status
 fn seq_text<K: Sink>(alloc: Global, text: &[u8], output: &mut K) -> Status
     requires { length text.now ≤ TEXT_BYTES }
     ensures says { (written : List ℕ) × Appends (K.content output.old) (K.content output.new) written
-        × ((file : Option (List ℕ)) → IsFront file MOST_BYTES text.now → SeqSays result file written) }
+        × SeqTransfers result written × SeqSays result (Some text.now) written }
     ensures words { result ≡ BadWords → ⊥ }
     ensures load { result ≡ Status.LoadFault → ⊥ }
     ensures counts { (h i : ℕ) → Counts result (record { shelf = h; input = i; output = K.faults output.old }) (record { shelf = h; input = i; output = K.faults output.new }) }

@@ -1,7 +1,7 @@
 use Rattle.std.proofs.Common.{[]}
 use Rattle.std.proofs.KnownBytes.{Appends-nil}
 use Rattle.c_meaning.specs.Answer.{meaning_of}
-use Rattle.bop_top.proofs.Meanings.{put_says, unmeant_says, unmeant_untold}
+use Rattle.bop_top.proofs.Meanings.{put_says, put_transfers, unmeant_says, unmeant_transfers, unmeant_untold}
 use Rattle.bop_top.proofs.meaning.mean_text.Goals as goal
 
 pub returns-in-Ok-clause-meant : goal.returns-in-Ok-clause-meant
@@ -13,7 +13,8 @@ returns-in-Ok-clause-meant g c =
       written = put.written;
       takes = m.1;
       writes = put.writes;
-      says = λ file front. put_says c.args.steps file c.args.text.now m.0 _ front c.requires (meaning_of c.in-Ok.meant) _ put.written m.2 m.3 put.puts;
+      transfers = put_transfers (meaning_of c.in-Ok.meant) _ put.written m.0 _ m.3 put.puts;
+      says = λ told. put_says c.args.steps c.args.text.now m.0 c.requires (meaning_of c.in-Ok.meant) _ put.written m.2 put.puts;
       counted = put.counted;
     }
 
@@ -25,6 +26,7 @@ returns-in-Err-clause-meant g c =
       written = [];
       takes = refused.1;
       writes = Appends-nil _;
-      says = λ file front. unmeant_says c.args.steps file c.args.text.now refused.0 _ front c.requires c.in-Err.status refused.2;
+      transfers = unmeant_transfers c.in-Err.status c.args.text.now refused.0 _ refused.2;
+      says = λ told. unmeant_says c.args.steps c.args.text.now refused.0 c.requires c.in-Err.status refused.2;
       counted = unmeant_untold c.in-Err.status c.args.text.now refused.0 refused.2;
     })

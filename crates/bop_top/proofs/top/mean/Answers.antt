@@ -1,7 +1,7 @@
 use Rattle.std.proofs.Common.{[], sym, subst}
 use Rattle.std.proofs.KnownBytes.{Appends-nil, Consumes-nil}
 use Rattle.bop_top.specs.Headline.{MeanSays}
-use Rattle.bop_top.proofs.Loads.{unloaded_mean, unloaded_untold}
+use Rattle.bop_top.proofs.Loads.{unloaded_mean, mean_stands, unloaded_untold}
 use Rattle.bop_top.proofs.top.mean.Goals as goal
 
 pub returns-in-Err-clause-meant : goal.returns-in-Err-clause-meant
@@ -12,6 +12,22 @@ returns-in-Err-clause-meant g c =
       written = [];
       takes = Consumes-nil _;
       writes = Appends-nil _;
-      says = λ file p. subst (λ f. MeanSays c.args.steps c.in-Err.status f [] (g.S.Source.left c.args.input.now) []) (sym p.1) (unloaded_mean c.in-Err.status _ _ _ c.args.steps refused p.0);
-      counted = unloaded_untold c.in-Err.status _ _ refused;
+      transfers = mean_stands _ _ _ c.in-Err.status refused;
+      says = unloaded_mean _ _ c.args.steps c.in-Err.status refused;
+      counted = unloaded_untold _ _ c.in-Err.status refused;
     })
+
+pub returns-in-Ok-clause-meant : goal.returns-in-Ok-clause-meant
+returns-in-Ok-clause-meant g c =
+    let meant = rw c.deref.ensures.value at c.mean_text.ensures.meant in
+    record {
+      taken = meant.taken;
+      written = meant.written;
+      takes = meant.takes;
+      writes = meant.writes;
+      transfers = meant.transfers;
+      says = λ tells. subst
+          (λ f. MeanSays c.args.steps c.mean_text.result.status f meant.taken meant.written)
+          (sym (c.in-Ok.ensures.text tells)) (meant.says tt);
+      counted = meant.counted;
+    }

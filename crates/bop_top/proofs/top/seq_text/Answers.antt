@@ -15,8 +15,9 @@ returns-in-Ok-run-clause-says g c =
     let here : c.in-Ok-run.machine.stop ≡ Some (Exit p.exit) = exited c.args.text.now c.in-Ok.program p c.in-Ok-run.machine _ _ c.in-Ok-run.ensures.state in
     let read : c.in-Ok-run.machine.stop ≡ Some (Exit c.exit_of.result) = c.exit_of.ensures in
     let same : c.exit_of.result ≡ p.exit = cc (here, read) in
-    (_, c.in-Ok-run.ensures.whole, λ file front. done-says file c.args.text.now c.in-Ok.program p c.exit_of.result front c.requires same)
+    (_, c.in-Ok-run.ensures.whole, tt, done-says c.args.text.now c.in-Ok.program p c.exit_of.result c.requires same)
 
 pub returns-in-Err-NotYetBuilt-clause-says : goal.returns-in-Err-NotYetBuilt-clause-says
 returns-in-Err-NotYetBuilt-clause-says g c =
-    ([], Appends-nil _, λ file front. ((c.args.text.now, front, c.requires, c.in-Err-NotYetBuilt.ensures.refused (ap Err c.in-Err-NotYetBuilt.field-0-is)), refl))
+    let form = c.in-Err-NotYetBuilt.ensures.refused (ap Err c.in-Err-NotYetBuilt.field-0-is) in
+    ([], Appends-nil _, refl, (c.args.text.now, refl, c.requires, form))
