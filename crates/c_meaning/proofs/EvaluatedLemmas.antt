@@ -38,11 +38,11 @@ operand unary.Not place t at h value address = value
 operand unary.Flip place t at h value address = value
 operand unary.At place t at h value address = value
 
-counted : (void_used counts fits : Bool) (at : Place)
+counts_right : (void_used counts fits : Bool) (at : Place)
     → passing_breaches void_used counts fits at ≡ [] → counts ≡ true
-counted true counts fits at h = never Mismatch at h
-counted false true fits at h = refl
-counted false false fits at h = never Arguments at h
+counts_right true counts fits at h = never Mismatch at h
+counts_right false true fits at h = refl
+counts_right false false fits at h = never Arguments at h
 
 is_none : (ps : List Shape) → is_none_left ps ≡ true → length ps ≡ 0
 is_none [] h = refl
@@ -65,7 +65,7 @@ takes_arguments : (k : Option Known) (named : Option Named) (all : Expressions) 
 takes_arguments None named all used fits at s h = never Unknown at h
 takes_arguments (Some (ObjectOf t)) named all used fits at s h = never Mismatch at h
 takes_arguments (Some (FunctionOf t ps d)) named all used fits at s h =
-    let counts = counted (is_void t && used) (same_count ps all) fits at (nil_right (unless d Unknown at) _ h) in
+    let counts = counts_right (is_void t && used) (same_count ps all) fits at (nil_right (unless d Unknown at) _ h) in
     let takes = s.takes (is_defined_call t ps d used (same_count ps all) fits at h) in
     subst (λ o. IsDefinedTaking (count_of_arguments all) (definition_of o)) (sym s.is)
     (subst (λ n. IsDefinedTaking n s.found) (same_length ps all counts) takes)
@@ -75,8 +75,8 @@ module _ (scope : Scope) (names : Names) (s : SameNames scope names) where
       → call_breaches used (called scope c) (same_count (parameters_of (called scope c)) all) fits at ≡ []
       → Takes names c all
   callable (callee.Name name) all used fits at h = takes_arguments (look scope name) (names name) all used fits at (s.stands name) h
-  callable callee.Getchar all used fits at h = sym (same_length [] all (counted false (same_count [] all) fits at h))
-  callable callee.Putchar all used fits at h = sym (same_length (IntShape ∷ []) all (counted false (same_count (IntShape ∷ []) all) fits at h))
+  callable callee.Getchar all used fits at h = sym (same_length [] all (counts_right false (same_count [] all) fits at h))
+  callable callee.Putchar all used fits at h = sym (same_length (IntShape ∷ []) all (counts_right false (same_count (IntShape ∷ []) all) fits at h))
 
   is_typed : (e : Expression) → breaches scope true e ≡ [] → IsTyped names e
   is_typed e h = ap is_some (same_type scope names s true e h) ∙ typed scope e h

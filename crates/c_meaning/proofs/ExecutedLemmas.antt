@@ -5,21 +5,23 @@ use Rattle.c_tree.specs.declared.breach.Broken.TheVariants.{Twice, Mismatch}
 use Rattle.c_tree.specs.declared.place.Place.{Place}
 use Rattle.c_tree.specs.Syntax.{Shape, Expression, Initialiser, OneValue, ManyValues, Declarator, Beginning, NoBeginning, DeclaredFirst, EvaluatedFirst, Statement, Nothing, Evaluated, Declared, Compound, Marked, Branch, Fork, Loop, LoopOnce, LoopFrom, Returned, BreakOut, GoOn, Statements, NoStatement, Then}
 use Rattle.c_tree.specs.Scope.{Scope, entered}
+use Rattle.c_tree.specs.Shapes.{is_void}
 use Rattle.c_tree.specs.Breach.{unless}
-use Rattle.c_tree.specs.Breaches.{breaches_in}
+use Rattle.c_tree.specs.Breaches.{breaches, breaches_in}
 use Rattle.c_tree.specs.Declarators.{declared_shape, with_declarator, with_declarators, fit_sizes, constants_breaches, local_init_breaches, declarator_breaches, declarators_breaches}
 use Rattle.c_tree.specs.Statements.{behind as scope_behind, behind_beginning, test_breaches, optional_test_breaches, unused_breaches, beginning_breaches, return_breaches, statement_breaches, body_breaches}
-use Rattle.c_tree.proofs.NoBreach.{nil_left, nil_right, never}
+use Rattle.c_tree.proofs.NoBreach.{nil_left, nil_right, holds, never, left_true, is_false}
 use Rattle.c_layout.specs.Frames.{beginning_locals, locals, body_locals}
 use Rattle.c_meaning.specs.declared.home.Home.TheVariants.{InFrame, Nowhere}
 use Rattle.c_meaning.specs.Names.{Names}
 use Rattle.c_meaning.specs.Exec.{behind, with_local, with_locals_named, named_behind, named_beginning}
-use Rattle.c_meaning.specs.Evaluated.{IsEvaluable, IsEvaluableUnused, IsInitialisable, HasPlace, AreDeclarable, IsBeginnable, IsExecutable, AreExecutable}
+use Rattle.c_meaning.specs.Evaluated.{IsEvaluable, IsEvaluableUnused, IsReturnable, IsInitialisable, HasPlace, AreDeclarable, IsBeginnable, IsExecutable, AreExecutable}
+use Rattle.c_meaning.proofs.ConstantValues.{have_values}
 use Rattle.c_meaning.proofs.SameNames.{SameNames, same_with, same_entered}
 use Rattle.c_meaning.proofs.EvaluatedLemmas.{evaluable, evaluable_unused}
 
-pub framed : (place : ℕ) → InFrame place ≢ Nowhere
-framed place = λ e. cc
+pub frame_is_somewhere : (place : ℕ) → InFrame place ≢ Nowhere
+frame_is_somewhere place = λ e. cc
 
 pub has_place : (n : ℕ) (places : List ℕ) → suc n ≤ length places → HasPlace places
 has_place n [] le = absurd (omega arith)
@@ -32,7 +34,7 @@ same_local : {scope : Scope} {names : Names} (places : List ℕ) (d : Declarator
     → SameNames scope names
     → SameNames (with_declarator d scope) (with_local places d names)
 same_local [] d p s = absurd p
-same_local (place ∷ places) d p s = same_with d.name (declared_shape d) (InFrame place) (framed place) s
+same_local (place ∷ places) d p s = same_with d.name (declared_shape d) (InFrame place) (frame_is_somewhere place) s
 
 same_locals : (places : List ℕ) (ds : List Declarator) {scope : Scope} {names : Names}
     → length ds ≤ length places → SameNames scope names
@@ -57,8 +59,10 @@ declarable scope names places (d ∷ ds) s le h =
     let rest = nil_right (declarator_breaches false scope d) _ h in
     let place = has_place (length ds) places le in
     let inner = same_local places d place s in
-    let three = nil_right (unless (not (is_some (scope.inner d.name))) Twice d.place) _ (nil_right (constants_breaches scope d.sizes) _ one) in
+    let two = nil_right (constants_breaches scope d.sizes) _ one in
+    let three = nil_right (unless (not (is_some (scope.inner d.name))) Twice d.place) _ two in
     let init = nil_right (unless (fit_sizes d.sizes) Mismatch d.place) _ three in (
+      have_values scope d.sizes (nil_left _ _ one),
       place,
       initialisable (with_declarator d scope) (with_local places d names) inner d d.init init,
       declarable (with_declarator d scope) (with_local places d names) (drop 1 places) ds inner (fewer (length ds) places le) rest,
@@ -79,9 +83,11 @@ module _ (scope : Scope) (names : Names) (s : SameNames scope names) where
   stepable (Some d) h = evaluable_unused scope names s d h
 
   returnable : (result : Shape) (value : Option Expression) (at : Place)
-      → return_breaches scope result value at ≡ [] → IfSome value (IsEvaluable names)
-  returnable result None at h = tt
-  returnable result (Some e) at h = evaluable scope names s e (nil_left _ _ h)
+      → return_breaches scope result value at ≡ [] → IsReturnable names result value
+  returnable result None at h = holds (is_void result) Mismatch at h
+  returnable result (Some e) at h =
+      let own = holds _ Mismatch at (nil_right (breaches scope true e) _ h) in
+      (is_false (is_void result) (left_true (not (is_void result)) _ own), evaluable scope names s e (nil_left _ _ h))
 
   beginnable : (places : List ℕ) (f : Beginning) → length (beginning_locals f) ≤ length places
       → beginning_breaches scope f ≡ [] → IsBeginnable names places f
@@ -113,7 +119,7 @@ module _ (result : Shape) where
   mutual
     executable : (loop : Bool) (t : Statement) (scope : Scope) (names : Names) (places : List ℕ)
         → SameNames scope names → length (locals t) ≤ length places
-        → statement_breaches result loop t scope ≡ [] → IsExecutable names places t
+        → statement_breaches result loop t scope ≡ [] → IsExecutable result names places t
     executable loop (Nothing at) scope names places s le h = tt
     executable loop (Evaluated e at) scope names places s le h = evaluable_unused scope names s e h
     executable loop (Declared ds at) scope names places s le h = declarable scope names places ds s le h
@@ -159,7 +165,7 @@ module _ (result : Shape) where
 
     pub all_executable : (loop : Bool) (body : Statements) (scope : Scope) (names : Names) (places : List ℕ)
         → SameNames scope names → length (body_locals body) ≤ length places
-        → body_breaches result loop body scope ≡ [] → AreExecutable names places body
+        → body_breaches result loop body scope ≡ [] → AreExecutable result names places body
     all_executable loop NoStatement scope names places s le h = tt
     all_executable loop (Then t rest) scope names places s le h =
         let own = places_before (locals t) (body_locals rest) places le in

@@ -1,5 +1,5 @@
 -- What the names of a text stand for: what the checker knows at file scope, with an address or a definition.
-use Rattle.std.proofs.Common.{◌≡◌, ℕ, ◌≤◌, length, drop, Bool, true, false, List, [], ◌∷◌, ◌++◌, Option, Some, None, is_some, refl, ap, sym, ◌∙◌, inl, inr, arith, length-append, length-drop}
+use Rattle.std.proofs.Common.{◌≡◌, ℕ, ◌≤◌, length, drop, Bool, true, false, List, [], ◌∷◌, ◌++◌, Option, Some, None, is_some, refl, ap, ap₂, sym, ◌∙◌, inl, inr, arith, length-append, length-drop}
 use Rattle.std.specs.Prelude.{◌&&◌, ◌||◌, ◌⊎◌, bytes_eq, if◌then◌else◌}
 use Rattle.std.proofs.lemmas.List.{length-map}
 use Rattle.c_tree.specs.Syntax.{Shape, IntShape, Declarator, Parameter, Function, Part, Globals, Routine, Statements}
@@ -7,11 +7,11 @@ use Rattle.c_tree.specs.Scope.{Known, ObjectOf, FunctionOf, Scope}
 use Rattle.c_tree.specs.Shapes.{same}
 use Rattle.c_tree.specs.Accepted.{result_shape, parameter_shapes, is_defined, with_function, part_breaches, parts_breaches, has_no_parameter, is_main, has_main}
 use Rattle.c_tree.specs.Declarators.{declared_shape, parameter_shape, with_declarator, with_declarators}
-use Rattle.c_tree.proofs.Derived.{either}
+use Rattle.c_tree.proofs.Derived.{either, same_is}
 use Rattle.c_tree.proofs.NoBreach.{nil_right, left_true, right_true}
 use Rattle.c_meaning.specs.declared.home.Home.TheVariants.{Fixed}
 use Rattle.c_meaning.specs.Names.{Definition, Named, Names, Variable, Routine as RoutineNamed}
-use Rattle.c_meaning.specs.Evaluated.{IsDefinedTaking, HasPlace}
+use Rattle.c_meaning.specs.Evaluated.{IsDefinedTaking, IsMain, HasPlace}
 use Rattle.c_meaning.specs.Meaning.{with_global, with_globals, global_declarators, defined_by, definition, with_function as with_routine, names_of, main_name}
 use Rattle.c_meaning.proofs.SameNames.{IsVariable}
 use Rattle.c_meaning.proofs.ExecutedLemmas.{has_place, fewer}
@@ -82,20 +82,20 @@ module _ (text : List Part) where
       same_file ps (drop (length ds) places) rooms.1 (same_globals places ds rooms.0 s)
   same_file (Routine f ∷ ps) places le s = same_file ps places le (same_function f s)
 
-  -- what is known is flagged
-  pub flagged : (name : List ℕ) (known : Known) (named : Option Named)
+  -- what is known of a function says whether the text defines it
+  pub known_is_flagged : (name : List ℕ) (known : Known) (named : Option Named)
       → StandsInFile name (Some known) named → IsFlagged text name known
-  flagged name (ObjectOf t) named s = tt
-  flagged name (FunctionOf t ps d) named s = s.0
+  known_is_flagged name (ObjectOf t) named s = tt
+  known_is_flagged name (FunctionOf t ps d) named s = s.0
 
   -- Functions that are defined.
 
-  picked : (b : Bool) (f : Function) (body : Option Statements) (other : Option Definition) (d : Definition)
+  picked_one : (b : Bool) (f : Function) (body : Option Statements) (other : Option Definition) (d : Definition)
       → defined_by b f body other ≡ Some d
       → ((b ≡ true) × (f ≡ d.function)) ⊎ (other ≡ Some d)
-  picked true f (Some body) other d h = let e : record { function = f; body = body } ≡ d = cc in inl (refl, ap (λ (x : Definition). x.function) e)
-  picked true f None other d h = inr h
-  picked false f body other d h = inr h
+  picked_one true f (Some body) other d h = let e : record { function = f; body = body } ≡ d = cc in inl (refl, ap (λ (x : Definition). x.function) e)
+  picked_one true f None other d h = inr h
+  picked_one false f body other d h = inr h
 
   abbrev pub known_at : List ℕ → Function → Known
   known_at name f = FunctionOf (result_shape f) (parameter_shapes f.parameters) (is_defined text name)
@@ -122,11 +122,12 @@ module _ (text : List Part) where
       → (behind_parts text ps scope).inner name ≡ Some (known_at name d.function)
   definition_known [] before scope name d h e = absurd cc
   definition_known (Globals keep ds ∷ ps) before scope name d h e =
-      definition_known ps (before ++ Globals keep ds ∷ []) (with_declarators ds scope) name d (nil_right (part_breaches text before scope (Globals keep ds)) _ h) e
+      let rest = nil_right (part_breaches text before scope (Globals keep ds)) _ h in
+      definition_known ps (before ++ Globals keep ds ∷ []) (with_declarators ds scope) name d rest e
   definition_known (Routine f ∷ ps) before scope name d h e =
       let rest = nil_right (part_breaches text before scope (Routine f)) _ h in
       let next = before ++ Routine f ∷ [] in
-      elim (picked (bytes_eq f.name name) f f.body (definition ps name) d e) [
+      elim (picked_one (bytes_eq f.name name) f f.body (definition ps name) d e) [
         | inl w ↦ known_behind ps next scope f name w.0 rest ∙ ap (λ g. Some (known_at name g)) w.1
         | inr w ↦ definition_known ps next (with_function text f scope) name d rest w
       ]
@@ -143,44 +144,76 @@ module _ (text : List Part) where
   defined_there [] name = refl
   defined_there (Globals keep ds ∷ ps) name = defined_there ps name
   defined_there (Routine f ∷ ps) name =
-      has_definition (bytes_eq f.name name) f f.body (definition ps name) ∙ ap (λ b. (is_some f.body && bytes_eq f.name name) || b) (defined_there ps name)
+      has_definition (bytes_eq f.name name) f f.body (definition ps name)
+      ∙ ap (λ b. (is_some f.body && bytes_eq f.name name) || b) (defined_there ps name)
+
+  abbrev pub IsOf : Shape → List Shape → Option Definition → Type 0
+  IsOf t ps None = ⊥
+  IsOf t ps (Some d) = (result_shape d.function ≡ t) × (parameter_shapes d.function.parameters ≡ ps)
+
+  -- a definition has the type that is known
+  known_type : (scope : Scope) → parts_breaches text [] scope text ≡ []
+      → (name : List ℕ) (t : Shape) (ps : List Shape) (d : Bool)
+      → (behind_parts text text scope).inner name ≡ Some (FunctionOf t ps d)
+      → is_defined text name ≡ true → IsOf t ps (definition text name)
+  known_type scope h name t ps d here there = found (definition text name) refl
+    where
+      found : (o : Option Definition) → definition text name ≡ o → IsOf t ps o
+      found None e = absurd (cc (there, defined_there text name, ap is_some e))
+      found (Some g) e =
+          let known = definition_known text [] scope name g h e in
+          let result : result_shape g.function ≡ t = cc in
+          let shapes : parameter_shapes g.function.parameters ≡ ps = cc in
+          (result, shapes)
+
+  taking : (t : Shape) (ps : List Shape) (o : Option Definition) → IsOf t ps o
+      → IsDefinedTaking (length ps) o
+  taking t ps None s = s
+  taking t ps (Some d) s = sym (length-map d.function.parameters parameter_shape) ∙ ap length s.1
 
   -- a definition takes the parameters that are known
   pub takes : (scope : Scope) → parts_breaches text [] scope text ≡ []
       → (name : List ℕ) (t : Shape) (ps : List Shape) (d : Bool)
       → (behind_parts text text scope).inner name ≡ Some (FunctionOf t ps d)
       → is_defined text name ≡ true → IsDefinedTaking (length ps) (definition text name)
-  takes scope h name t ps d here there = found (definition text name) refl
-    where
-      found : (o : Option Definition) → definition text name ≡ o → IsDefinedTaking (length ps) o
-      found None e = absurd (cc (there, defined_there text name, ap is_some e))
-      found (Some g) e =
-          let known = definition_known text [] scope name g h e in
-          let shapes : parameter_shapes g.function.parameters ≡ ps = cc in
-          sym (length-map g.function.parameters parameter_shape) ∙ ap length shapes
+  takes scope h name t ps d here there =
+      taking t ps (definition text name) (known_type scope h name t ps d here there)
+
+  -- The function `main`.
 
   none_left : (ps : List Parameter) → has_no_parameter ps ≡ true → parameter_shapes ps ≡ []
   none_left [] h = refl
   none_left (p ∷ ps) h = cc
 
+  no_parameter : (ps : List Parameter) → parameter_shapes ps ≡ [] → ps ≡ []
+  no_parameter [] h = refl
+  no_parameter (p ∷ ps) h = cc
+
+  abbrev known_main : Known
+  known_main = FunctionOf IntShape [] (is_defined text main_name)
+
+  main_type : (f : Function)
+      → same (result_shape f) IntShape && has_no_parameter f.parameters ≡ true
+      → known_at main_name f ≡ known_main
+  main_type f h =
+      let result = same_is (result_shape f) IntShape (left_true _ _ h) in
+      let none = none_left f.parameters (right_true (same (result_shape f) IntShape) _ h) in
+      ap₂ (λ t ps. FunctionOf t ps (is_defined text main_name)) result none
+
   main_known : (ps before : List Part) (scope : Scope) → parts_breaches text before scope ps ≡ []
-      → has_main ps ≡ true
-      → (t : Shape) × ((behind_parts text ps scope).inner main_name ≡ Some (FunctionOf t [] (is_defined text main_name)))
+      → has_main ps ≡ true → (behind_parts text ps scope).inner main_name ≡ Some known_main
   main_known [] before scope h m = absurd cc
   main_known (Globals keep ds ∷ ps) before scope h m =
-      main_known ps (before ++ Globals keep ds ∷ []) (with_declarators ds scope) (nil_right (part_breaches text before scope (Globals keep ds)) _ h) m
+      let rest = nil_right (part_breaches text before scope (Globals keep ds)) _ h in
+      main_known ps (before ++ Globals keep ds ∷ []) (with_declarators ds scope) rest m
   main_known (Routine f ∷ ps) before scope h m =
       let rest = nil_right (part_breaches text before scope (Routine f)) _ h in
       let next = before ++ Routine f ∷ [] in
-      either (is_main (Routine f)) (has_main ps) m
-      (λ w.
+      let here : is_main (Routine f) ≡ true → (behind_parts text ps (with_function text f scope)).inner main_name ≡ Some known_main = λ w.
       let named = right_true (is_some f.body) _ w in
-      let none = none_left f.parameters (right_true (same (result_shape f) IntShape) _ (right_true (bytes_eq f.name main_name) _ named)) in (
-        result_shape f,
-        known_behind ps next scope f main_name (left_true (bytes_eq f.name main_name) _ named) rest
-            ∙ ap (λ shapes. Some (FunctionOf (result_shape f) shapes (is_defined text main_name))) none,
-      ))
-      (λ w. main_known ps next (with_function text f scope) rest w)
+      known_behind ps next scope f main_name (left_true (bytes_eq f.name main_name) _ named) rest
+      ∙ ap Some (main_type f (right_true (bytes_eq f.name main_name) _ named)) in
+      either (is_main (Routine f)) (has_main ps) m here (main_known ps next (with_function text f scope) rest)
 
   defines : (x y other rest later : Bool) → (x && (y && other)) || rest ≡ true
       → (rest ≡ true → later ≡ true) → (x && y) || later ≡ true
@@ -191,10 +224,15 @@ module _ (text : List Part) where
   main_defined : (ps : List Part) → has_main ps ≡ true → is_defined ps main_name ≡ true
   main_defined [] m = absurd cc
   main_defined (Globals keep ds ∷ ps) m = main_defined ps m
-  main_defined (Routine f ∷ ps) m = defines (is_some f.body) (bytes_eq f.name main_name) _ (has_main ps) (is_defined ps main_name) m (main_defined ps)
+  main_defined (Routine f ∷ ps) m =
+      defines (is_some f.body) (bytes_eq f.name main_name) _ (has_main ps) (is_defined ps main_name) m (main_defined ps)
 
-  pub main_takes : (scope : Scope) → parts_breaches text [] scope text ≡ [] → has_main text ≡ true
-      → IsDefinedTaking 0 (definition text main_name)
-  main_takes scope h m =
-      let known = main_known text [] scope h m in
-      takes scope h main_name known.0 [] (is_defined text main_name) known.1 (main_defined text m)
+  as_main : (o : Option Definition) → IsOf IntShape [] o → IsMain o
+  as_main None s = s
+  as_main (Some d) s = (s.0, no_parameter d.function.parameters s.1)
+
+  pub main_is : (scope : Scope) → parts_breaches text [] scope text ≡ [] → has_main text ≡ true
+      → IsMain (definition text main_name)
+  main_is scope h m =
+      as_main (definition text main_name)
+      (known_type scope h main_name IntShape [] (is_defined text main_name) (main_known text [] scope h m) (main_defined text m))

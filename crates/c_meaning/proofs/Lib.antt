@@ -4,6 +4,7 @@ pub mod Along
 pub mod Appends
 pub mod Arguments
 pub mod Bounds
+pub mod ConstantValues
 pub mod Ending
 pub mod Entries
 pub mod ErasedEval

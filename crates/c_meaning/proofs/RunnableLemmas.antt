@@ -19,10 +19,11 @@ use Rattle.c_meaning.specs.declared.home.Home.TheVariants.{InFrame}
 use Rattle.c_meaning.specs.Names.{Named, Names, no_names}
 use Rattle.c_meaning.specs.Evaluated.{HasPlace, ArePassable, IsCallable, AreCallable, IsRunnable}
 use Rattle.c_meaning.specs.Meaning.{global_declarators, names_of, with_parameter, with_parameters}
+use Rattle.c_meaning.proofs.ConstantValues.{globals_constant}
 use Rattle.c_meaning.proofs.SameNames.{Stands, SameNames, same_with, same_entered}
-use Rattle.c_meaning.proofs.ExecutedLemmas.{framed, has_place, fewer, all_executable}
+use Rattle.c_meaning.proofs.ExecutedLemmas.{frame_is_somewhere, has_place, fewer, all_executable}
 use Rattle.c_meaning.proofs.FileScope.{behind_parts, stays_known}
-use Rattle.c_meaning.proofs.FileNames.{StandsInFile, FileNames, same_globals, same_function, places_for_globals, same_file, flagged, takes, main_takes}
+use Rattle.c_meaning.proofs.FileNames.{StandsInFile, FileNames, same_globals, same_function, places_for_globals, same_file, known_is_flagged, takes, main_is}
 
 -- Parameters.
 
@@ -32,7 +33,7 @@ same_parameter : {scope : Scope} {names : Names} (places : List ℕ) (t : Shape)
     → SameNames (with_known name t scope) (with_parameter places t name names)
 same_parameter [] t name at p h s = absurd p
 same_parameter (place ∷ places) t None at p h s = never Arguments at h
-same_parameter (place ∷ places) t (Some name) at p h s = same_with name t (InFrame place) (framed place) s
+same_parameter (place ∷ places) t (Some name) at p h s = same_with name t (InFrame place) (frame_is_somewhere place) s
 
 is_named : (scope : Scope) (name : Option (List ℕ)) (at : Place)
     → parameter_name_breaches scope name at ≡ [] → is_some name ≡ true
@@ -119,7 +120,7 @@ module _ (text : List Part) (h : parts_breaches text [] empty_scope text ≡ [])
       at name None e = subst (λ (outer : List Frame). Stands (otherwise None (look_outer outer name)) (names name)) (sym s.alone) tt
       at name (Some known) e =
           let here = subst (λ o. StandsInFile text name o (those name)) e (s.stands name) in
-          let flag = flagged text name known (those name) here in
+          let flag = known_is_flagged text name known (those name) here in
           let stays = stays_known text ps before scope name known flag right e in
           let last : last_scope.inner name ≡ Some known = ap (λ (x : Scope). x.inner name) (sym ends) ∙ stays in
           in_file name known (names name) last (subst (λ o. StandsInFile text name o (names name)) last (last_names.stands name))
@@ -162,9 +163,10 @@ module _ (text : List Part) (h : parts_breaches text [] empty_scope text ≡ [])
 
   runnable : has_main text ≡ true → IsRunnable text
   runnable main = record {
-    addressed = each_has_address;
+    enough_addresses = each_has_address;
+    constants = globals_constant text text [] empty_scope h;
     functions = all_callable text [] empty_scope no_names (addresses (globals text)) (omega (arith, each_has_address)) nothing_yet h refl;
-    main = main_takes text empty_scope h main;
+    main = main_is text empty_scope h main;
   }
 
 pub right_runnable : (text : List Part) → text_breaches text ≡ [] → has_main text ≡ true

@@ -1,11 +1,14 @@
 -- What an accepted text evaluates. Its meaning takes types, places, variables and definitions for
 -- granted: each has to be there, so that no value that stands in for what is missing is ever used.
-use Rattle.std.specs.Prelude.{◌≡◌, ◌≢◌, ℕ, suc, List, [], ◌∷◌, drop, length, Option, Some, None, IsSome, IfSome}
+use Rattle.std.specs.Prelude.{◌≡◌, ◌≢◌, ℕ, suc, true, false, List, [], ◌∷◌, drop, length, Option, Some, None, IsSome, IfSome}
 use Rattle.c_tree.specs.declared.operator.Unary.{Unary}
 use Rattle.c_tree.specs.declared.operator.Unary.TheVariants as unary
 use Rattle.c_tree.specs.declared.tree.Callee.{Callee}
 use Rattle.c_tree.specs.declared.tree.Callee.TheVariants as callee
-use Rattle.c_tree.specs.Syntax.{Expression, Variable, Numeral, Letter, EndOfFile, Prefix, Stepped, Converted, Infix, Choice, Stored, Element, Called, Expressions, NoMore, Next, Initialiser, OneValue, ManyValues, Declarator, Beginning, NoBeginning, DeclaredFirst, EvaluatedFirst, Statement, Nothing, Evaluated, Declared, Compound, Marked, Branch, Fork, Loop, LoopOnce, LoopFrom, Returned, BreakOut, GoOn, Statements, NoStatement, Then, Parameter, Function, Part, Globals, Routine as FunctionPart}
+use Rattle.c_tree.specs.Syntax.{Shape, IntShape, Expression, Variable, Numeral, Letter, EndOfFile, Prefix, Stepped, Converted, Infix, Choice, Stored, Element, Called, Expressions, NoMore, Next, Initialiser, OneValue, ManyValues, Declarator, Beginning, NoBeginning, DeclaredFirst, EvaluatedFirst, Statement, Nothing, Evaluated, Declared, Compound, Marked, Branch, Fork, Loop, LoopOnce, LoopFrom, Returned, BreakOut, GoOn, Statements, NoStatement, Then, Parameter, Function, Part, Globals, Routine as FunctionPart}
+use Rattle.c_tree.specs.Accepted.{result_shape}
+use Rattle.c_tree.specs.Constant.{value_of}
+use Rattle.c_tree.specs.Shapes.{is_void}
 use Rattle.c_tree.specs.Typing.{type_at}
 use Rattle.c_layout.specs.Frames.{frame_of, beginning_locals}
 use Rattle.c_layout.specs.Globals.{globals, addresses}
@@ -74,10 +77,20 @@ module _ (names : Names) where
   IsEvaluableUnused (Called callee all at) = AreEvaluable all × Takes callee all
   IsEvaluableUnused e = IsEvaluable e
 
+  -- a value is returned exactly where the function has a result
+  abbrev pub IsReturnable : Shape → Option Expression → Type 0
+  IsReturnable result None = is_void result ≡ true
+  IsReturnable result (Some e) = (is_void result ≡ false) × IsEvaluable e
+
   -- a local is initialised with one value
   abbrev pub IsInitialisable : Initialiser → Type 0
   IsInitialisable (OneValue e) = IsEvaluable e
   IsInitialisable (ManyValues es) = ⊥
+
+-- each constant has a value
+abbrev pub HaveValues : Expressions → Type 0
+HaveValues NoMore = Unit {0}
+HaveValues (Next e rest) = IsSome (value_of e) × HaveValues rest
 
 -- Places are those of the locals that are still to be declared: the next one has a place.
 abbrev pub HasPlace : List ℕ → Type 0
@@ -88,37 +101,40 @@ abbrev pub AreDeclarable : Names → List ℕ → List Declarator → Type 0
 AreDeclarable names places [] = Unit {0}
 AreDeclarable names places (d ∷ ds) =
     let inner = with_local places d names in
-    HasPlace places × IfSome d.init (IsInitialisable inner) × AreDeclarable inner (drop 1 places) ds
+    HaveValues d.sizes × HasPlace places × IfSome d.init (IsInitialisable inner)
+    × AreDeclarable inner (drop 1 places) ds
 
 abbrev pub IsBeginnable : Names → List ℕ → Beginning → Type 0
 IsBeginnable names places NoBeginning = Unit {0}
 IsBeginnable names places (DeclaredFirst ds) = AreDeclarable names places ds
 IsBeginnable names places (EvaluatedFirst e) = IsEvaluableUnused names e
 
-abbrev mutual
-  pub IsExecutable : Names → List ℕ → Statement → Type 0
-  IsExecutable names places (Nothing at) = Unit {0}
-  IsExecutable names places (Evaluated e at) = IsEvaluableUnused names e
-  IsExecutable names places (Declared ds at) = AreDeclarable names places ds
-  IsExecutable names places (Compound body at) = AreExecutable names places body
-  IsExecutable names places (Marked marker at) = Unit {0}
-  IsExecutable names places (Branch c s at) = IsEvaluable names c × IsExecutable names places s
-  IsExecutable names places (Fork c s other at) =
-      IsEvaluable names c × IsExecutable names places s × IsExecutable names (behind s places) other
-  IsExecutable names places (Loop c s at) = IsEvaluable names c × IsExecutable names places s
-  IsExecutable names places (LoopOnce s c at) = IsExecutable names places s × IsEvaluable names c
-  IsExecutable names places (LoopFrom f c d s at) =
-      let inner = named_beginning places f names in
-      IsBeginnable names places f × IfSome c (IsEvaluable inner) × IfSome d (IsEvaluableUnused inner)
-      × IsExecutable inner (drop (length (beginning_locals f)) places) s
-  IsExecutable names places (Returned value at) = IfSome value (IsEvaluable names)
-  IsExecutable names places (BreakOut at) = Unit {0}
-  IsExecutable names places (GoOn at) = Unit {0}
+-- the statements of a function with a result
+module _ (result : Shape) where
+  abbrev mutual
+    pub IsExecutable : Names → List ℕ → Statement → Type 0
+    IsExecutable names places (Nothing at) = Unit {0}
+    IsExecutable names places (Evaluated e at) = IsEvaluableUnused names e
+    IsExecutable names places (Declared ds at) = AreDeclarable names places ds
+    IsExecutable names places (Compound body at) = AreExecutable names places body
+    IsExecutable names places (Marked marker at) = Unit {0}
+    IsExecutable names places (Branch c s at) = IsEvaluable names c × IsExecutable names places s
+    IsExecutable names places (Fork c s other at) =
+        IsEvaluable names c × IsExecutable names places s × IsExecutable names (behind s places) other
+    IsExecutable names places (Loop c s at) = IsEvaluable names c × IsExecutable names places s
+    IsExecutable names places (LoopOnce s c at) = IsExecutable names places s × IsEvaluable names c
+    IsExecutable names places (LoopFrom f c d s at) =
+        let inner = named_beginning places f names in
+        IsBeginnable names places f × IfSome c (IsEvaluable inner) × IfSome d (IsEvaluableUnused inner)
+        × IsExecutable inner (drop (length (beginning_locals f)) places) s
+    IsExecutable names places (Returned value at) = IsReturnable names result value
+    IsExecutable names places (BreakOut at) = Unit {0}
+    IsExecutable names places (GoOn at) = Unit {0}
 
-  pub AreExecutable : Names → List ℕ → Statements → Type 0
-  AreExecutable names places NoStatement = Unit {0}
-  AreExecutable names places (Then s rest) =
-      IsExecutable names places s × AreExecutable (named_behind places s names) (behind s places) rest
+    pub AreExecutable : Names → List ℕ → Statements → Type 0
+    AreExecutable names places NoStatement = Unit {0}
+    AreExecutable names places (Then s rest) =
+        IsExecutable names places s × AreExecutable (named_behind places s names) (behind s places) rest
 
 -- each parameter has a name and a place
 abbrev pub ArePassable : List ℕ → List Parameter → Type 0
@@ -132,15 +148,31 @@ module _ (text : List Part) where
       let places = (frame_of f.parameters body).places in
       let names = names_of text (addresses (globals text)) text no_names in
       ArePassable places f.parameters
-      × AreExecutable (with_parameters places f.parameters names) (drop (length f.parameters) places) body
+      × AreExecutable (result_shape f) (with_parameters places f.parameters names) (drop (length f.parameters) places) body
 
   abbrev pub AreCallable : List Part → Type 0
   AreCallable [] = Unit {0}
   AreCallable (Globals keep ds ∷ rest) = AreCallable rest
   AreCallable (FunctionPart f ∷ rest) = IfSome f.body (IsCallable f) × AreCallable rest
 
--- Each global has an address, each function that has a body can be called, and `main` is defined without parameters.
+-- a global is initialised with constants
+abbrev pub IsConstant : Initialiser → Type 0
+IsConstant (OneValue e) = IsSome (value_of e)
+IsConstant (ManyValues es) = HaveValues es
+
+abbrev pub AreConstant : List Declarator → Type 0
+AreConstant [] = Unit {0}
+AreConstant (d ∷ ds) = HaveValues d.sizes × IfSome d.init IsConstant × AreConstant ds
+
+-- `main` is defined with result int and without parameters
+abbrev pub IsMain : Option Definition → Type 0
+IsMain None = ⊥
+IsMain (Some d) = (result_shape d.function ≡ IntShape) × (d.function.parameters ≡ [])
+
+-- Each global has an address and its constants have values, each function that has a body can be
+-- called, and there is a `main`.
 pub record IsRunnable (text : List Part) : Type 0 where
-  pub addressed : length (addresses (globals text)) ≡ length (global_declarators text)
+  pub enough_addresses : length (addresses (globals text)) ≡ length (global_declarators text)
+  pub constants : AreConstant (global_declarators text)
   pub functions : AreCallable text text
-  pub main : IsDefinedTaking 0 (definition text main_name)
+  pub main : IsMain (definition text main_name)
