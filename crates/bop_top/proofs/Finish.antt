@@ -1,5 +1,5 @@
 -- How the run of a text's program ends.
-use Rattle.std.proofs.Common.{◌≡◌, ℕ, ℤ, pos, ◌<◌, ◌≤◌, ◌^◌, List, [], length, Option, Some, refl, sym, ◌∙◌, ap, subst, arith, w32}
+use Rattle.std.proofs.Common.{◌≡◌, ℕ, ℤ, pos, ◌<◌, ◌≤◌, ◌^◌, List, [], length, Some, refl, sym, ◌∙◌, ap, subst, arith, w32}
 use Rattle.std.specs.Prelude.{IsSome}
 use Rattle.std.proofs.lemmas.Grind.{common_steps}
 use Rattle.std.proofs.lemmas.Int.{ints}

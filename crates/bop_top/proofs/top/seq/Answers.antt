@@ -11,6 +11,9 @@ returns-in-Err-clause-says g c =
 
 pub returns-in-Ok-clause-says : goal.returns-in-Ok-clause-says
 returns-in-Ok-clause-says g c =
-    let said = rw c.deref.ensures.value at c.seq_text.ensures.says in
-    (said.0, said.1, said.2,
-      λ tells. subst (λ f. SeqSays c.seq_text.result f said.0) (sym (c.in-Ok.ensures.text tells)) said.3)
+    let said = rw c.deref.ensures.value at c.seq_text.ensures.says in (
+      said.0,
+      said.1,
+      said.2,
+      λ tells. subst (λ f. SeqSays c.seq_text.result f said.0) (sym (c.in-Ok.ensures.text tells)) said.3,
+    )
