@@ -1,7 +1,7 @@
 -- The end of the work on a program.
 use Rattle.std.proofs.Common.{◌≡◌, ◌∙◌, ℕ, List, [], Option, Result, Ok, Err, ap, reverse}
 use Rattle.std.specs.Prelude.{IfOk, OnOk}
-use Rattle.c_tree.specs.declared.memory.OutOfMemory.{OutOfMemory}
+use Rattle.bop_ends.specs.declared.fault.OutOfMemory.{OutOfMemory}
 use Rattle.c_tree.specs.Syntax.{Part}
 use Rattle.c_meaning.specs.declared.flow.Flow.{Flow}
 use Rattle.c_meaning.specs.declared.halt.Halt.{Halt}

@@ -1,7 +1,7 @@
 -- What a node does over its operands, which are resolved, is what the expression does.
 use Rattle.std.proofs.Common.{◌≡◌, ℕ, Bool, List, Option, Ok, Err, Result, ap, sym, subst, ◌∙◌}
 use Rattle.std.specs.Prelude.{IfOk}
-use Rattle.c_tree.specs.declared.memory.OutOfMemory.{OutOfMemory}
+use Rattle.bop_ends.specs.declared.fault.OutOfMemory.{OutOfMemory}
 use Rattle.c_tree.specs.declared.operator.Binary.{Binary}
 use Rattle.c_tree.specs.declared.operator.Binary.TheVariants.{Plus}
 use Rattle.c_tree.specs.declared.operator.Step.{Step}

@@ -4,7 +4,7 @@ use Rattle.std.specs.Prelude.{Box, IfOk}
 use Rattle.std.proofs.lemmas.List.{drop_all, drop-drop, length-map, map-append}
 use Rattle.c_tree.proofs.Lists.{cut_at}
 use Rattle.c_tree.proofs.Views as tree
-use Rattle.c_tree.specs.declared.memory.OutOfMemory.{OutOfMemory}
+use Rattle.bop_ends.specs.declared.fault.OutOfMemory.{OutOfMemory}
 use Rattle.c_tree.specs.declared.tree.Stmt.{Stmt}
 use Rattle.c_tree.specs.declared.tree.StmtKind.{StmtKind}
 use Rattle.c_tree.specs.Syntax.{Shape, Statement, Evaluated, Declared, Compound, Branch, Fork, Loop, LoopOnce, LoopFrom, Returned, Statements, Then}
