@@ -22,7 +22,7 @@ use mir.Val.{to_z, of_z}
 performs-text : (text : List ℕ) (program : Program) (p : IsProgramOf text program) → Performs program [] p.characters p.exit
 performs-text text program p =
     let constant = p.form.returns.constant in
-    subst (λ (q : Program). Performs q [] p.characters p.exit) (sym p.same) (performs p.characters [] p.exit _ constant.value constant.fits p.form.plain)
+    subst (λ (q : Program). Performs q [] p.characters p.exit) (sym p.same) (performs p.characters [] p.exit _ constant.value constant.fits p.form.plain p.form.few)
 
 -- a run of the form has ended long before its budget
 at-end : (program : Program) (characters : List ℕ) (exit : ℤ) (p : Performs program [] characters exit) → length characters ≤ 1000
