@@ -1,6 +1,6 @@
 -- What is said of a text that was evaluated.
 use Rattle.std.proofs.Common.{◌≡◌, ◌≤◌, ℕ, List, [], length, Option, Some, None, refl, sym, subst}
-use Rattle.c_meaning.specs.Meaning.{Meaning}
+use Rattle.c_semantics.specs.Meaning.{Meaning}
 use Rattle.bop_top.specs.declared.status.Status.{Status}
 use Rattle.bop_top.specs.declared.status.Status.TheVariants as status
 use Rattle.bop_top.specs.declared.top.TheConstants.{TEXT_BYTES}

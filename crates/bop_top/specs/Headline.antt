@@ -9,9 +9,9 @@ use Rattle.rv_code.specs.State.{Machine, stop_of, output_of}
 use Rattle.rv_code.specs.Run.{seq}
 use Rattle.c_tree.specs.Syntax.{Part}
 use Rattle.c_tree.specs.Erase.{erased_text}
-use Rattle.c_meaning.specs.Meaning.{Meaning, meant}
-use Rattle.c_meaning.specs.Meaning as meaning
-use Rattle.c_meaning.specs.Outcome as told
+use Rattle.c_semantics.specs.Meaning.{Meaning, meant}
+use Rattle.c_semantics.specs.Meaning as meaning
+use Rattle.c_semantics.specs.Outcome as told
 use Rattle.low_link.specs.Form.{IsForm}
 use Rattle.low_link.specs.Front.{IsAccepted, Fits, Refuses}
 use Rattle.low_link.specs.Refused.{IsRejection}

@@ -5,20 +5,20 @@ use Rattle.std.proofs.Math.Seq.{take-append_seam, drop-append_seam}
 use Rattle.std.proofs.lemmas.Bool.{cases_lt}
 use Rattle.std.proofs.lemmas.List.{drop_all, drop_more, length-drop, length-map, length-reverse, reverse-append, reverse-reverse, take_all, take-append-drop}
 use Rattle.c_tree.specs.Syntax.{Part}
-use Rattle.c_meaning.specs.declared.flow.Flow.TheVariants.{Gave}
-use Rattle.c_meaning.specs.declared.node.Node.{Node}
-use Rattle.c_meaning.specs.declared.node.Target.{Target}
-use Rattle.c_meaning.specs.declared.routine.Parameter.{Parameter}
-use Rattle.c_meaning.specs.Actions.{arguments_run}
+use Rattle.c_semantics.specs.declared.flow.Flow.TheVariants.{Gave}
+use Rattle.c_resolve.specs.declared.node.Node.{Node}
+use Rattle.c_resolve.specs.declared.node.Target.{Target}
+use Rattle.c_resolve.specs.declared.routine.Parameter.{Parameter}
+use Rattle.c_resolve.specs.Actions.{arguments_run}
 use Rattle.c_meaning.specs.Called.{passing_one}
-use Rattle.c_meaning.specs.Eval.{Calls}
-use Rattle.c_meaning.specs.Memory.{store_at}
-use Rattle.c_meaning.specs.Run.{Store, Run, Goes, then_run, pure, ◌>>=◌, ◌>>◌, count}
-use Rattle.c_meaning.specs.Meaning.{calls_at}
-use Rattle.c_meaning.specs.Names.{Definition}
-use Rattle.c_meaning.specs.Nodes.{Runs, all_values, call_of, runs, target_run}
+use Rattle.c_semantics.specs.Eval.{Calls}
+use Rattle.c_semantics.specs.Memory.{store_at}
+use Rattle.c_semantics.specs.Run.{Store, Run, Goes, then_run, pure, ◌>>=◌, ◌>>◌, count}
+use Rattle.c_semantics.specs.Meaning.{calls_at}
+use Rattle.c_semantics.specs.Names.{Definition}
+use Rattle.c_resolve.specs.Nodes.{Runs, all_values, call_of, runs, target_run}
 use Rattle.c_meaning.specs.Pending.{Rest}
-use Rattle.c_meaning.proofs.Runs.{assoc, assoc_two, then_assoc}
+use Rattle.c_semantics.proofs.Runs.{assoc, assoc_two, then_assoc}
 
 -- expressions give as many values as they are
 pub all_values_then : {B : Type 0} (rs : List Runs) (f g : List ℕ → Run B) → ((xs : List ℕ) → length xs ≡ length rs → f xs ≡ g xs) → all_values rs >>= f ≡ all_values rs >>= g

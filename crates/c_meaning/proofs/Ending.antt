@@ -3,7 +3,7 @@ use Rattle.std.proofs.Common.{◌≡◌, ◌∙◌, ℕ, List, [], Option, Resul
 use Rattle.std.specs.Prelude.{IfOk, OnOk}
 use Rattle.bop_ends.specs.declared.fault.OutOfMemory.{OutOfMemory}
 use Rattle.c_tree.specs.Syntax.{Part}
-use Rattle.c_meaning.specs.declared.flow.Flow.{Flow}
+use Rattle.c_semantics.specs.declared.flow.Flow.{Flow}
 use Rattle.c_meaning.specs.declared.halt.Halt.{Halt}
 use Rattle.c_meaning.specs.declared.machine.Machine.{Machine}
 use Rattle.c_meaning.specs.declared.meant.Meant.{Meant}
@@ -11,10 +11,10 @@ use Rattle.c_meaning.specs.declared.pending.Pending.{Pending}
 use Rattle.c_meaning.specs.declared.pending.Work.{Work}
 use Rattle.c_meaning.specs.Answer.{meaning_of, Ends}
 use Rattle.c_meaning.specs.Machine.{store_of}
-use Rattle.c_meaning.specs.Meaning.{ended}
-use Rattle.c_meaning.specs.Names.{Definition}
+use Rattle.c_semantics.specs.Meaning.{ended}
+use Rattle.c_semantics.specs.Names.{Definition}
 use Rattle.c_meaning.specs.Pending.{after}
-use Rattle.c_meaning.specs.Run.{Ended}
+use Rattle.c_semantics.specs.Run.{Ended}
 use Rattle.c_meaning.specs.Turned.{Turned}
 
 -- where no work is left, it ended with the last flow

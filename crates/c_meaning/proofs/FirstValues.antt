@@ -1,8 +1,8 @@
 -- Globals that have started, one behind the other.
 use Rattle.std.proofs.Common.{◌≡◌, ℕ, List, [], ◌∷◌, ◌++◌, refl, sym, ◌∙◌, append_assoc, append-nil}
 use Rattle.c_tree.specs.Syntax.{Declarator}
-use Rattle.c_meaning.specs.Contents.{Contents}
-use Rattle.c_meaning.specs.Meaning.{with_first_bytes, global_objects}
+use Rattle.c_semantics.specs.Contents.{Contents}
+use Rattle.c_semantics.specs.Meaning.{with_first_bytes, global_objects}
 use Rattle.c_meaning.specs.Started.{started_one, started}
 
 -- where no global is left

@@ -3,10 +3,10 @@ use Rattle.std.proofs.Common.{◌≡◌, ◌∙◌, ◌≤◌, ◌+◌, ◌-◌,
 use Rattle.std.specs.Prelude.{nat_lt, if◌then◌else◌}
 use Rattle.std.proofs.lemmas.Bool.{le-ltb}
 use Rattle.bop_bits.specs.declared.map.TheConstants.{STACK_FROM}
-use Rattle.c_meaning.specs.declared.flow.Flow.{Flow}
-use Rattle.c_meaning.specs.Meaning.{in_frame, value_of_flow}
-use Rattle.c_meaning.specs.Run.{Store, Run, pure, then_run, ◌>>=◌, ◌>>◌, now, change, stack_full}
-use Rattle.c_meaning.proofs.Runs.{then_assoc}
+use Rattle.c_semantics.specs.declared.flow.Flow.{Flow}
+use Rattle.c_semantics.specs.Meaning.{in_frame, value_of_flow}
+use Rattle.c_semantics.specs.Run.{Store, Run, pure, then_run, ◌>>=◌, ◌>>◌, now, change, stack_full}
+use Rattle.c_semantics.proofs.Runs.{then_assoc}
 
 no_less : (b : Bool) (go : Run (Option ℕ)) (store : Store) (left : ℕ) → b ≡ false → (if b then stack_full else go) store left ≡ go store left
 no_less true go store left is = cc

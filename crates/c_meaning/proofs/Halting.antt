@@ -6,8 +6,8 @@ use Rattle.c_meaning.specs.declared.halt.Halt.TheVariants as halt
 use Rattle.c_meaning.specs.declared.machine.Machine.{Machine}
 use Rattle.c_meaning.specs.declared.pending.Pending.{Pending}
 use Rattle.c_meaning.specs.Machine.{store_of, Halts, Ran}
-use Rattle.c_meaning.specs.Names.{Definition}
-use Rattle.c_meaning.specs.Run.{Run, Ended, then_run, ◌>>=◌}
+use Rattle.c_semantics.specs.Names.{Definition}
+use Rattle.c_semantics.specs.Run.{Run, Ended, then_run, ◌>>=◌}
 use Rattle.c_meaning.specs.Turned.{all_after, Turned}
 
 -- what would follow a run makes no difference where it stops

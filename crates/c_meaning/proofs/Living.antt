@@ -1,13 +1,13 @@
 -- Blocks: what their locals do to a store, and what comes behind them.
 use Rattle.std.proofs.Common.{◌≡◌, ◌∙◌, ℕ, List, [], ◌∷◌, ◌++◌, Option, length, take, sym, append_assoc, append-nil}
 use Rattle.std.specs.Prelude.{map}
-use Rattle.c_meaning.specs.declared.flow.Flow.{Flow}
-use Rattle.c_meaning.specs.declared.local.Local.{Local}
-use Rattle.c_meaning.specs.Contents.{Contents}
-use Rattle.c_meaning.specs.Exec.{all_blank, object_at, with_locals}
+use Rattle.c_semantics.specs.declared.flow.Flow.{Flow}
+use Rattle.c_semantics.specs.declared.local.Local.{Local}
+use Rattle.c_semantics.specs.Contents.{Contents}
+use Rattle.c_semantics.specs.Exec.{all_blank, object_at, with_locals}
 use Rattle.c_meaning.specs.Opened.{opened, opened_all}
-use Rattle.c_meaning.specs.Run.{Store, Run, pure, ◌>>=◌, ◌>>◌, now, change}
-use Rattle.c_meaning.proofs.Runs.{then_assoc}
+use Rattle.c_semantics.specs.Run.{Store, Run, pure, ◌>>=◌, ◌>>◌, now, change}
+use Rattle.c_semantics.proofs.Runs.{then_assoc}
 
 -- all locals of a block at once, or one behind the other
 pub opened_all_is : (sp : ℕ) (ls : List Local) (c : Contents) → opened_all sp ls c ≡ record { bytes = all_blank sp ls c.bytes; live = c.live ++ map (object_at sp) ls }

@@ -1,22 +1,22 @@
 -- Work that is planned for a node is planned for what its kind is.
 use Rattle.std.proofs.Common.{◌≡◌, ◌∙◌, ℕ, List, ◌∷◌, Option, ap, reverse}
-use Rattle.c_meaning.specs.declared.action.Action.{Action}
-use Rattle.c_meaning.specs.declared.action.Passed.{Passed}
-use Rattle.c_meaning.specs.declared.flow.Flow.{Flow}
-use Rattle.c_meaning.specs.declared.flow.Flow.TheVariants.{Normal}
-use Rattle.c_meaning.specs.declared.node.Node.{Node}
-use Rattle.c_meaning.specs.declared.node.NodeKind.{NodeKind}
+use Rattle.c_resolve.specs.declared.action.Action.{Action}
+use Rattle.c_resolve.specs.declared.action.Passed.{Passed}
+use Rattle.c_semantics.specs.declared.flow.Flow.{Flow}
+use Rattle.c_semantics.specs.declared.flow.Flow.TheVariants.{Normal}
+use Rattle.c_resolve.specs.declared.node.Node.{Node}
+use Rattle.c_resolve.specs.declared.node.NodeKind.{NodeKind}
 use Rattle.c_meaning.specs.declared.pending.Work.{Work}
-use Rattle.c_meaning.specs.Actions.{value_run, unused_run, begun_run, passing, action_run}
-use Rattle.c_meaning.specs.Eval.{Calls}
-use Rattle.c_meaning.specs.Meaning.{calls_at}
-use Rattle.c_meaning.specs.Names.{Definition}
-use Rattle.c_meaning.specs.Nodes.{Runs, runs, runs_of_kind, at_place}
+use Rattle.c_resolve.specs.Actions.{value_run, unused_run, begun_run, passing, action_run}
+use Rattle.c_semantics.specs.Eval.{Calls}
+use Rattle.c_semantics.specs.Meaning.{calls_at}
+use Rattle.c_semantics.specs.Names.{Definition}
+use Rattle.c_resolve.specs.Nodes.{Runs, runs, runs_of_kind, at_place}
 use Rattle.c_meaning.specs.Pending.{after, with_value}
-use Rattle.c_meaning.specs.Run.{Run, ◌>>=◌, ◌>>◌}
+use Rattle.c_semantics.specs.Run.{Run, ◌>>=◌, ◌>>◌}
 use Rattle.c_meaning.specs.Turned.{Plans, PlansNothing, PlansFlow}
-use Rattle.c_meaning.proofs.Runs.{assoc}
-use Rattle.c_meaning.proofs.Views.{node_is}
+use Rattle.c_semantics.proofs.Runs.{assoc}
+use Rattle.c_resolve.proofs.Views.{node_is}
 
 module _ (n : Node) (kind : NodeKind) (is : n.kind ≡ kind) (r : List Definition → List ℕ → Calls → Runs) (same : (definitions : List Definition) (input : List ℕ) (calls : Calls) → runs_of_kind definitions input calls kind n.place ≡ r definitions input calls) where
   pub runs_are : (definitions : List Definition) (input : List ℕ) (calls : Calls) → runs definitions input calls n ≡ record (r definitions input calls) { place = n.place }

@@ -2,11 +2,11 @@
 use Rattle.std.specs.Prelude.{ℕ}
 use Rattle.c_tree.specs.declared.operator.Step.{Step}
 use Rattle.c_tree.specs.declared.place.Place.{Place}
-use Rattle.c_meaning.specs.declared.kind.Held.{Held}
-use Rattle.c_meaning.specs.declared.kind.Operand.{Operand}
-use Rattle.c_meaning.specs.declared.kind.Operand.TheVariants.{Signed}
-use Rattle.c_meaning.specs.Run.{Run, pure, ◌>>=◌}
-use Rattle.c_meaning.specs.Eval.{combined, step_operator, step_value}
+use Rattle.c_semantics.specs.declared.kind.Held.{Held}
+use Rattle.c_semantics.specs.declared.kind.Operand.{Operand}
+use Rattle.c_semantics.specs.declared.kind.Operand.TheVariants.{Signed}
+use Rattle.c_semantics.specs.Run.{Run, pure, ◌>>=◌}
+use Rattle.c_semantics.specs.Eval.{combined, step_operator, step_value}
 
 -- `++ --` of what an object at an address holds
 unfoldable pub stepped_at : Step → Operand → Held → Place → Place → ℕ → Run ℕ

@@ -1,14 +1,14 @@
 -- What the code answers of a meaning.
 use Rattle.std.specs.Prelude.{◌≡◌, ℕ, Option, Result, Ok, Err}
-use Rattle.c_meaning.specs.declared.flow.Flow.{Flow}
+use Rattle.c_semantics.specs.declared.flow.Flow.{Flow}
 use Rattle.c_meaning.specs.declared.halt.Halt.{Halt}
 use Rattle.c_meaning.specs.declared.machine.Machine.{Machine}
 use Rattle.c_meaning.specs.declared.meant.Meant.{Meant}
 use Rattle.c_meaning.specs.declared.meant.Meant.TheVariants as meant
 use Rattle.c_meaning.specs.Machine.{store_of, Halts}
 use Rattle.c_meaning.specs.Pending.{given_by}
-use Rattle.c_meaning.specs.Run.{Ended, Goes}
-use Rattle.c_meaning.specs.Meaning.{Meaning, Done, StackFull', More', Undefined'}
+use Rattle.c_semantics.specs.Run.{Ended, Goes}
+use Rattle.c_semantics.specs.Meaning.{Meaning, Done, StackFull', More', Undefined'}
 
 abbrev pub meaning_of : Meant → Meaning
 meaning_of (meant.Done output exit) = Done output exit

@@ -1,22 +1,22 @@
 -- What comes behind a call of a function.
 use Rattle.std.specs.Prelude.{ℕ, suc, ◌+◌, List, Option, reverse}
 use Rattle.c_tree.specs.Syntax.{Part}
-use Rattle.c_meaning.specs.declared.flow.Flow.{Flow}
-use Rattle.c_meaning.specs.declared.flow.Flow.TheVariants.{Gave}
+use Rattle.c_semantics.specs.declared.flow.Flow.{Flow}
+use Rattle.c_semantics.specs.declared.flow.Flow.TheVariants.{Gave}
 use Rattle.c_meaning.specs.declared.machine.Machine.{Machine}
 use Rattle.c_meaning.specs.declared.pending.Pending.{Pending}
-use Rattle.c_meaning.specs.declared.node.Target.{Target}
-use Rattle.c_meaning.specs.declared.routine.Parameter.{Parameter}
-use Rattle.c_meaning.specs.declared.routine.Routine.{Routine}
-use Rattle.c_meaning.specs.Actions.{arguments_run, body_run, routine_run}
-use Rattle.c_meaning.specs.Exec.{with_locals}
+use Rattle.c_resolve.specs.declared.node.Target.{Target}
+use Rattle.c_resolve.specs.declared.routine.Parameter.{Parameter}
+use Rattle.c_resolve.specs.declared.routine.Routine.{Routine}
+use Rattle.c_resolve.specs.Actions.{arguments_run, body_run, routine_run}
+use Rattle.c_semantics.specs.Exec.{with_locals}
 use Rattle.c_meaning.specs.Machine.{store_of}
-use Rattle.c_meaning.specs.Meaning.{calls_at}
-use Rattle.c_meaning.specs.Names.{Definition}
-use Rattle.c_meaning.specs.Nodes.{target_run}
+use Rattle.c_semantics.specs.Meaning.{calls_at}
+use Rattle.c_semantics.specs.Names.{Definition}
+use Rattle.c_resolve.specs.Nodes.{target_run}
 use Rattle.c_meaning.specs.Pending.{after}
-use Rattle.c_meaning.specs.Memory.{store_at}
-use Rattle.c_meaning.specs.Run.{Run, Ended, pure, now, ◌>>=◌, ◌>>◌}
+use Rattle.c_semantics.specs.Memory.{store_at}
+use Rattle.c_semantics.specs.Run.{Run, Ended, pure, now, ◌>>=◌, ◌>>◌}
 
 -- an argument into its parameter
 abbrev pub passing_one : Parameter → ℕ → Run (Unit {0})

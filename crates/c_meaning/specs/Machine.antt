@@ -3,7 +3,7 @@ use Rattle.std.specs.Prelude.{◌≡◌, Result, Ok, Err}
 use Rattle.c_meaning.specs.declared.halt.Halt.{Halt}
 use Rattle.c_meaning.specs.declared.halt.Halt.TheVariants as halt
 use Rattle.c_meaning.specs.declared.machine.Machine.{Machine}
-use Rattle.c_meaning.specs.Run.{Store, Run, Ended, Goes, StackFull, More, Undef}
+use Rattle.c_semantics.specs.Run.{Store, Run, Ended, Goes, StackFull, More, Undef}
 
 abbrev pub store_of : Machine → Store
 store_of m = record { bytes = m.memory.bytes; live = m.memory.live; sp = m.sp; cursor = m.cursor; output = m.output }

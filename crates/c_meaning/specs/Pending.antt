@@ -4,9 +4,9 @@ use Rattle.std.specs.Option.{option_copied}
 use Rattle.c_tree.specs.Syntax.{Part}
 use Rattle.c_tree.specs.Constant.{decides}
 use Rattle.c_tree.specs.Words.{truth, prefix_word}
-use Rattle.c_meaning.specs.declared.action.Beginning.{Beginning}
-use Rattle.c_meaning.specs.declared.flow.Flow.{Flow}
-use Rattle.c_meaning.specs.declared.flow.Flow.TheVariants.{Normal, Gave}
+use Rattle.c_resolve.specs.declared.action.Beginning.{Beginning}
+use Rattle.c_semantics.specs.declared.flow.Flow.{Flow}
+use Rattle.c_semantics.specs.declared.flow.Flow.TheVariants.{Normal, Gave}
 use Rattle.c_meaning.specs.declared.pending.Edge.TheVariants as edge
 use Rattle.c_meaning.specs.declared.pending.Loop.{Loop}
 use Rattle.c_meaning.specs.declared.pending.Stage.{Stage}
@@ -17,15 +17,15 @@ use Rattle.c_meaning.specs.declared.pending.Wanted.{Wanted}
 use Rattle.c_meaning.specs.declared.pending.Wanted.TheVariants as want
 use Rattle.c_meaning.specs.declared.pending.Work.{Work}
 use Rattle.c_meaning.specs.declared.pending.Work.TheVariants as work
-use Rattle.c_meaning.specs.Run.{Run, pure, ◌>>=◌, ◌>>◌, count, now, change, given_or}
-use Rattle.c_meaning.specs.Memory.{value_at, store_at}
-use Rattle.c_meaning.specs.Names.{Definition}
-use Rattle.c_meaning.specs.Eval.{Calls, outcome, is_unsigned, infix_act, assigned, first_of}
-use Rattle.c_meaning.specs.Exec.{after_turn, loop, turns, with_locals}
-use Rattle.c_meaning.specs.Nodes.{Runs, constant, variable_address, converted_by, all_values, target_run, runs}
+use Rattle.c_semantics.specs.Run.{Run, pure, ◌>>=◌, ◌>>◌, count, now, change, given_or}
+use Rattle.c_semantics.specs.Memory.{value_at, store_at}
+use Rattle.c_semantics.specs.Names.{Definition}
+use Rattle.c_semantics.specs.Eval.{Calls, outcome, is_unsigned, infix_act, assigned, first_of}
+use Rattle.c_semantics.specs.Exec.{after_turn, loop, turns, with_locals}
+use Rattle.c_resolve.specs.Nodes.{Runs, constant, variable_address, converted_by, all_values, target_run, runs}
 use Rattle.c_meaning.specs.Acts.{stepped_at}
-use Rattle.c_meaning.specs.Actions.{value_run, begun_run, passing, beginning_run, test_run, step_run, action_run, body_run, optional_run}
-use Rattle.c_meaning.specs.Meaning.{calls_at, value_of_flow}
+use Rattle.c_resolve.specs.Actions.{value_run, begun_run, passing, beginning_run, test_run, step_run, action_run, body_run, optional_run}
+use Rattle.c_semantics.specs.Meaning.{calls_at, value_of_flow}
 use Rattle.c_tree.specs.declared.undefined.Undefined.TheVariants.{NoValue}
 
 -- what comes behind a piece of work: how that ended, and the values at hand, the topmost first

@@ -3,9 +3,9 @@ use Rattle.std.specs.Prelude.{ℕ, List, [], ◌∷◌, ◌++◌}
 use Rattle.c_tree.specs.Declarators.{declared_shape}
 use Rattle.c_tree.specs.Syntax.{Declarator}
 use Rattle.c_layout.specs.Sizes.{size}
-use Rattle.c_meaning.specs.Contents.{Contents}
-use Rattle.c_meaning.specs.Meaning.{first_bytes}
-use Rattle.c_meaning.specs.Memory.{with_bytes}
+use Rattle.c_semantics.specs.Contents.{Contents}
+use Rattle.c_semantics.specs.Meaning.{first_bytes}
+use Rattle.c_semantics.specs.Memory.{with_bytes}
 
 abbrev pub started_one : ℕ → Declarator → Contents → Contents
 started_one address d c = record {

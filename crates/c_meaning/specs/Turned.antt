@@ -1,18 +1,18 @@
 -- What a turn of the evaluation leaves.
 use Rattle.std.specs.Prelude.{◌≡◌, ℕ, List, ◌∷◌, Option, Result, Ok, Err, reverse}
 use Rattle.c_tree.specs.Syntax.{Part}
-use Rattle.c_meaning.specs.declared.flow.Flow.{Flow}
-use Rattle.c_meaning.specs.declared.flow.Flow.TheVariants.{Normal}
+use Rattle.c_semantics.specs.declared.flow.Flow.{Flow}
+use Rattle.c_semantics.specs.declared.flow.Flow.TheVariants.{Normal}
 use Rattle.c_meaning.specs.declared.halt.Halt.{Halt}
 use Rattle.c_meaning.specs.declared.machine.Machine.{Machine}
 use Rattle.c_meaning.specs.declared.pending.Pending.{Pending}
 use Rattle.c_meaning.specs.declared.pending.Task.{Task}
 use Rattle.c_meaning.specs.declared.pending.Work.{Work}
-use Rattle.c_meaning.specs.Run.{Ended, Run, ◌>>=◌}
+use Rattle.c_semantics.specs.Run.{Ended, Run, ◌>>=◌}
 use Rattle.c_meaning.specs.Machine.{store_of, Halts}
-use Rattle.c_meaning.specs.Meaning.{calls_at}
-use Rattle.c_meaning.specs.Eval.{Calls}
-use Rattle.c_meaning.specs.Names.{Definition}
+use Rattle.c_semantics.specs.Meaning.{calls_at}
+use Rattle.c_semantics.specs.Eval.{Calls}
+use Rattle.c_semantics.specs.Names.{Definition}
 use Rattle.c_meaning.specs.Pending.{after, done, with_value}
 
 module _ (definitions : List Definition) (text : List Part) (input : List ℕ) where

@@ -5,14 +5,14 @@ ghost use Rattle.std.specs.Int.{w32, w64, cast_unsigned};
 ghost use Rattle.c_tree.specs.Constant.{is_shift};
 ghost use Rattle.c_tree.specs.Words.{prefix_word};
 ghost use Rattle.c_meaning.specs.Acts.{stepped_at};
-ghost use Rattle.c_meaning.specs.Eval.{infix_act, combined, assigned, arithmetic, sum, difference, other_act, compared, is_unsigned, is_order, amount, step_operator, step_value, outcome, getchar, put};
+ghost use Rattle.c_semantics.specs.Eval.{infix_act, combined, assigned, arithmetic, sum, difference, other_act, compared, is_unsigned, is_order, amount, step_operator, step_value, outcome, getchar, put};
 ghost use Rattle.c_meaning.specs.Machine.{Ran, SameSteps};
-ghost use Rattle.c_meaning.specs.Pointers.{along, moved, distance};
+ghost use Rattle.c_semantics.specs.Pointers.{along, moved, distance};
 
 use crate::arithmetic::{infix_word, prefix_word};
 use crate::halt::Halt;
-use crate::kind::{Held, Operand};
 use crate::machine::Machine;
+use c_semantics::{Held, Operand};
 use c_tree::{Binary, Place, Step, Unary, Undefined};
 
 fn is_shift(op: Binary) -> bool
@@ -40,25 +40,17 @@ fn operator_of(how: Step) -> Binary
     }
 }
 
-impl Operand {
-    pub(crate) fn is_unsigned(self) -> bool
-        ensures { result ≡ is_unsigned self }
-    {
-        !matches!(self, Operand::Signed)
-    }
-
-    /// The number of elements that an integer's word stands for.
-    fn elements(self, value: u32) -> Elements
-        ensures { result.count ≡ amount self value }
-    {
-        match self {
-            Operand::Signed => Elements {
-                count: i64::from(value.cast_signed()),
-            },
-            Operand::Unsigned | Operand::Pointer(_) => Elements {
-                count: i64::from(value),
-            },
-        }
+/// The number of elements that an integer's word stands for.
+fn elements_of(operand: Operand, value: u32) -> Elements
+    ensures { result.count ≡ amount operand value }
+{
+    match operand {
+        Operand::Signed => Elements {
+            count: i64::from(value.cast_signed()),
+        },
+        Operand::Unsigned | Operand::Pointer(_) => Elements {
+            count: i64::from(value),
+        },
     }
 }
 
@@ -177,9 +169,9 @@ impl Machine {
         ensures { Ran (sum c d x y at) self.now self.now result }
     {
         match c {
-            Operand::Pointer(size) => self.moved(size, d.elements(y), x, at),
+            Operand::Pointer(size) => self.moved(size, elements_of(d, y), x, at),
             Operand::Signed | Operand::Unsigned => match d {
-                Operand::Pointer(size) => self.moved(size, c.elements(x), y, at),
+                Operand::Pointer(size) => self.moved(size, elements_of(c, x), y, at),
                 Operand::Signed | Operand::Unsigned => {
                     self.arithmetic(Binary::Plus, c, d, x, y, at)
                 }
@@ -195,7 +187,7 @@ impl Machine {
             Operand::Pointer(size) => match d {
                 Operand::Pointer(_) => self.distance(size, x, y, at),
                 Operand::Signed | Operand::Unsigned => {
-                    self.moved(size, d.elements(y).back(), x, at)
+                    self.moved(size, elements_of(d, y).back(), x, at)
                 }
             },
             Operand::Signed | Operand::Unsigned => {

@@ -3,21 +3,20 @@
 ghost use Rattle.std.specs.Prelude.{◌≡◌, ℕ, List, OnOk};
 ghost use Rattle.c_tree.specs.Syntax.{Part};
 ghost use Rattle.c_meaning.specs.Opened.{opened, opened_all};
-ghost use Rattle.c_meaning.specs.Names.{Definition};
+ghost use Rattle.c_semantics.specs.Names.{Definition};
 ghost use Rattle.c_meaning.specs.Turned.{all_after, task_after, work_after, PlansFlow, Turned};
 ghost use Rattle.c_meaning.specs.Pending.{begun_loop};
-ghost use Rattle.c_meaning.specs.declared.flow.Flow.TheVariants.{Normal};
+ghost use Rattle.c_semantics.specs.declared.flow.Flow.TheVariants.{Normal};
 ghost use Rattle.c_meaning.specs.declared.pending.Edge.TheVariants as edge;
 ghost use Rattle.c_meaning.specs.declared.pending.Task.TheVariants as task;
 ghost use Rattle.c_meaning.specs.declared.pending.Work.TheVariants as item;
 
-use crate::action::{Action, Beginning};
 use crate::halt::Halt;
-use crate::local::Local;
 use crate::machine::Machine;
-use crate::object::Object;
 use crate::pending::{Edge, Loop, Pending, Stage, Task, Wanted, Work};
 use crate::planning::plan;
+use c_resolve::{Action, Beginning};
+use c_semantics::{Local, Object};
 use c_tree::OutOfMemory;
 
 impl Machine {
@@ -63,7 +62,7 @@ pub(crate) fn block<'a>(
 }
 
 /// What a `for` begins with, and then its loop.
-#[tactic(auto, using(crate::proofs::Runs::assoc))]
+#[tactic(auto, using(c_semantics::proofs::Runs::assoc))]
 fn begin<'a>(
     work: &mut Vec<Work<'a>>,
     first: &'a Beginning,

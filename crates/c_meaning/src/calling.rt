@@ -2,29 +2,27 @@
 
 ghost use Rattle.std.specs.Prelude.{◌≡◌, ◌<◌, ℕ, suc, List, IfOk, OnOk, drop, reverse, take};
 ghost use Rattle.c_tree.specs.Syntax.{Part};
-ghost use Rattle.c_meaning.specs.Actions.{arguments_run};
+ghost use Rattle.c_resolve.specs.Actions.{arguments_run};
 ghost use Rattle.c_meaning.specs.Called.{passing_one, entered_after, routine_after, target_after};
-ghost use Rattle.c_meaning.specs.Eval.{Calls};
+ghost use Rattle.c_semantics.specs.Eval.{Calls};
 ghost use Rattle.c_meaning.specs.Machine.{Ran};
-ghost use Rattle.c_meaning.specs.Meaning.{value_of_flow};
-ghost use Rattle.c_meaning.specs.Names.{Definition};
-ghost use Rattle.c_meaning.specs.Routines.{definitions_of, AreRoutinesOf};
+ghost use Rattle.c_semantics.specs.Meaning.{value_of_flow};
+ghost use Rattle.c_semantics.specs.Names.{Definition};
+ghost use Rattle.c_resolve.specs.Routines.{definitions_of, AreRoutinesOf};
 ghost use Rattle.c_meaning.specs.Turned.{task_after, work_after, all_after, Turned};
-ghost use Rattle.c_meaning.specs.declared.flow.Flow.TheVariants.{Normal};
-ghost use Rattle.c_meaning.specs.declared.node.Target.TheVariants as target;
+ghost use Rattle.c_semantics.specs.declared.flow.Flow.TheVariants.{Normal};
+ghost use Rattle.c_resolve.specs.declared.node.Target.TheVariants as target;
 ghost use Rattle.c_meaning.specs.declared.pending.Edge.TheVariants as edge;
 ghost use Rattle.c_meaning.specs.declared.pending.Task.TheVariants as task;
 ghost use Rattle.c_meaning.specs.declared.pending.Work.TheVariants as item;
 
-use crate::flow::Flow;
 use crate::halt::Halt;
 use crate::machine::Machine;
-use crate::node::Target;
 use crate::pending::{Edge, Pending, Task, Work};
 use crate::planning::plan;
-use crate::resolving::past;
-use crate::routine::{Parameter, Routine};
 use bop_bits::STACK_FROM;
+use c_resolve::{Parameter, Routine, Target, past};
+use c_semantics::Flow;
 use c_tree::{OutOfMemory, Place, Undefined};
 
 /// Takes so many of the topmost values, in the order in which they came.

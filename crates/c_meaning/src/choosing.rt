@@ -3,19 +3,18 @@
 ghost use Rattle.std.specs.Prelude.{◌≡◌, ℕ, List, reverse};
 ghost use Rattle.c_tree.specs.Constant.{decides};
 ghost use Rattle.c_tree.specs.Syntax.{Part};
-ghost use Rattle.c_meaning.specs.Names.{Definition};
+ghost use Rattle.c_semantics.specs.Names.{Definition};
 ghost use Rattle.c_meaning.specs.Turned.{all_after, task_after, Turned};
-ghost use Rattle.c_meaning.specs.declared.flow.Flow.TheVariants.{Normal};
+ghost use Rattle.c_semantics.specs.declared.flow.Flow.TheVariants.{Normal};
 ghost use Rattle.c_meaning.specs.declared.pending.Task.TheVariants as task;
 
-use crate::action::{Action, Begun, Passed};
-use crate::flow::Flow;
 use crate::halt::Halt;
 use crate::machine::Machine;
-use crate::node::Node;
 use crate::pending::{Pending, Task, Wanted, Work};
 use crate::planning::plan;
 use crate::tasks::pop;
+use c_resolve::{Action, Begun, Node, Passed};
+use c_semantics::Flow;
 use c_tree::Binary;
 
 /// Whether the left operand of `&&` or `||` decides.
@@ -94,7 +93,7 @@ pub(crate) fn branch<'a>(
 }
 
 /// Expressions, one behind the other.
-#[tactic(auto, using(crate::proofs::Runs::assoc))]
+#[tactic(auto, using(c_semantics::proofs::Runs::assoc))]
 pub(crate) fn values<'a>(
     pending: &mut Pending<'a>,
     machine: &mut Machine,
@@ -116,7 +115,7 @@ pub(crate) fn values<'a>(
 }
 
 /// Statements, one behind the other.
-#[tactic(auto, using(crate::proofs::Runs::assoc))]
+#[tactic(auto, using(c_semantics::proofs::Runs::assoc))]
 pub(crate) fn all<'a>(
     pending: &mut Pending<'a>,
     machine: &mut Machine,
@@ -142,7 +141,7 @@ pub(crate) fn end(pending: &mut Pending<'_>, machine: &mut Machine, flow: Flow)
 }
 
 /// What a declarator does as it is passed.
-#[tactic(auto, using(crate::proofs::Runs::assoc))]
+#[tactic(auto, using(c_semantics::proofs::Runs::assoc))]
 pub(crate) fn pass_one<'a>(
     pending: &mut Pending<'a>,
     machine: &mut Machine,

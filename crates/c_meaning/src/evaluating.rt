@@ -3,20 +3,19 @@
 ghost use Rattle.std.specs.Prelude.{◌≡◌, ℕ, List, OnOk};
 ghost use Rattle.c_tree.specs.Constant.{is_logic};
 ghost use Rattle.c_tree.specs.Syntax.{Part};
-ghost use Rattle.c_meaning.specs.Actions.{value_run, unused_run};
-ghost use Rattle.c_meaning.specs.Eval.{infix_run, prefix_run, strict, logic, stepped, stored, choice};
-ghost use Rattle.c_meaning.specs.Names.{Definition};
-ghost use Rattle.c_meaning.specs.Nodes.{variable, pointer, ignored, conversion, element_run, runs, used, call_of};
+ghost use Rattle.c_resolve.specs.Actions.{value_run, unused_run};
+ghost use Rattle.c_semantics.specs.Eval.{infix_run, prefix_run, strict, logic, stepped, stored, choice};
+ghost use Rattle.c_semantics.specs.Names.{Definition};
+ghost use Rattle.c_resolve.specs.Nodes.{variable, pointer, ignored, conversion, element_run, runs, used, call_of};
 ghost use Rattle.c_meaning.specs.Turned.{Plans, PlansNothing};
-ghost use Rattle.c_meaning.specs.declared.flow.Flow.TheVariants.{Normal};
+ghost use Rattle.c_semantics.specs.declared.flow.Flow.TheVariants.{Normal};
 ghost use Rattle.c_meaning.specs.declared.pending.Task.TheVariants as task;
 ghost use Rattle.c_meaning.specs.declared.pending.Wanted.TheVariants as want;
 
-use crate::home::Home;
-use crate::kind::{Held, Operand};
-use crate::node::{Node, NodeKind, Target};
 use crate::pending::{Edge, Task, Wanted, Work};
 use crate::planning::plan;
+use c_resolve::{Node, NodeKind, Target};
+use c_semantics::{Held, Home, Operand};
 use c_tree::{Binary, OutOfMemory, Place, Step, Unary};
 
 fn is_logic(op: Binary) -> bool
@@ -26,7 +25,7 @@ fn is_logic(op: Binary) -> bool
 }
 
 /// An operator before its operand.
-#[tactic(auto, using(crate::proofs::Runs::assoc))]
+#[tactic(auto, using(c_semantics::proofs::Runs::assoc))]
 fn prefix<'a>(
     work: &mut Vec<Work<'a>>,
     op: Unary,
@@ -79,7 +78,7 @@ fn prefix<'a>(
 }
 
 /// An operator that evaluates both operands.
-#[tactic(auto, using(crate::proofs::Runs::assoc_two))]
+#[tactic(auto, using(c_semantics::proofs::Runs::assoc_two))]
 fn strict<'a>(
     work: &mut Vec<Work<'a>>,
     op: Binary,
@@ -103,7 +102,7 @@ fn strict<'a>(
 }
 
 /// `&&` or `||`.
-#[tactic(auto, using(crate::proofs::Runs::assoc_two))]
+#[tactic(auto, using(c_semantics::proofs::Runs::assoc_two))]
 fn logic<'a>(
     work: &mut Vec<Work<'a>>,
     op: Binary,
@@ -122,7 +121,7 @@ fn logic<'a>(
     )
 }
 
-#[tactic(auto, using(crate::proofs::Runs::assoc))]
+#[tactic(auto, using(c_semantics::proofs::Runs::assoc))]
 fn step<'a>(
     work: &mut Vec<Work<'a>>,
     how: Step,
@@ -143,14 +142,14 @@ fn step<'a>(
     Ok(())
 }
 
-#[tactic(auto, using(crate::proofs::Runs::assoc))]
+#[tactic(auto, using(c_semantics::proofs::Runs::assoc))]
 fn convert<'a>(work: &mut Vec<Work<'a>>, held: Held, a: &'a Node) -> Result<(), OutOfMemory>
     ensures { OnOk result (Plans (λ definitions input calls. conversion held (value_run definitions input calls a.now)) work.old.items work.new.items) }
 {
     plan(work, &[Task::Eval(Wanted::Value, a), Task::Convert(held)])
 }
 
-#[tactic(auto, using(crate::proofs::Runs::assoc_two))]
+#[tactic(auto, using(c_semantics::proofs::Runs::assoc_two))]
 fn choice<'a>(
     work: &mut Vec<Work<'a>>,
     c: &'a Node,
@@ -236,7 +235,7 @@ fn infix<'a>(
 }
 
 /// What a variable holds.
-#[tactic(auto, using(crate::proofs::Runs::assoc))]
+#[tactic(auto, using(c_semantics::proofs::Runs::assoc))]
 fn variable(work: &mut Vec<Work<'_>>, home: Home, held: Held, at: Place) -> Result<(), OutOfMemory>
     ensures { OnOk result (Plans (λ definitions input calls. variable home held at) work.old.items work.new.items) }
 {
@@ -258,7 +257,7 @@ fn used_call<'a>(
 }
 
 /// What is to be done for the value of an expression with operands.
-#[tactic(auto, using(crate::proofs::Views::views))]
+#[tactic(auto, using(c_resolve::proofs::Views::views))]
 pub(crate) fn value<'a>(work: &mut Vec<Work<'a>>, node: &'a Node) -> Result<(), OutOfMemory>
     ensures { OnOk result (Plans (λ definitions input calls. value_run definitions input calls node.now) work.old.items work.new.items) }
 {
@@ -284,7 +283,7 @@ pub(crate) fn value<'a>(work: &mut Vec<Work<'a>>, node: &'a Node) -> Result<(), 
 }
 
 /// What a pointer points to, as an address.
-#[tactic(auto, using(crate::proofs::Runs::assoc))]
+#[tactic(auto, using(c_semantics::proofs::Runs::assoc))]
 fn pointer<'a>(work: &mut Vec<Work<'a>>, a: &'a Node) -> Result<(), OutOfMemory>
     ensures { OnOk result (Plans (λ definitions input calls. pointer (value_run definitions input calls a.now)) work.old.items work.new.items) }
 {
@@ -292,7 +291,7 @@ fn pointer<'a>(work: &mut Vec<Work<'a>>, a: &'a Node) -> Result<(), OutOfMemory>
 }
 
 /// The value of an expression, which is dropped.
-#[tactic(auto, using(crate::proofs::Runs::assoc))]
+#[tactic(auto, using(c_semantics::proofs::Runs::assoc))]
 fn ignored<'a>(work: &mut Vec<Work<'a>>, node: &'a Node) -> Result<(), OutOfMemory>
     ensures { OnOk result (PlansNothing (λ definitions input calls. ignored (value_run definitions input calls node.now)) work.old.items work.new.items) }
 {
@@ -300,7 +299,7 @@ fn ignored<'a>(work: &mut Vec<Work<'a>>, node: &'a Node) -> Result<(), OutOfMemo
 }
 
 /// What is to be done for the address of an expression. One that is no place has the address 0.
-#[tactic(auto, using(crate::proofs::Views::views, crate::proofs::Runs::assoc))]
+#[tactic(auto, using(c_resolve::proofs::Views::views, c_semantics::proofs::Runs::assoc))]
 pub(crate) fn address<'a>(work: &mut Vec<Work<'a>>, node: &'a Node) -> Result<(), OutOfMemory>
     ensures { OnOk result (Plans (λ definitions input calls. (runs definitions input calls node.now).address) work.old.items work.new.items) }
 {
@@ -333,7 +332,7 @@ fn unused_call<'a>(
 }
 
 /// What is to be done for an expression whose value isn't used.
-#[tactic(auto, using(crate::proofs::Views::views, crate::proofs::Runs::assoc))]
+#[tactic(auto, using(c_resolve::proofs::Views::views, c_semantics::proofs::Runs::assoc))]
 pub(crate) fn unused<'a>(work: &mut Vec<Work<'a>>, node: &'a Node) -> Result<(), OutOfMemory>
     ensures { OnOk result (PlansNothing (λ definitions input calls. unused_run definitions input calls node.now) work.old.items work.new.items) }
 {

@@ -2,34 +2,31 @@
 
 ghost use Rattle.std.specs.Prelude.{OnOk};
 ghost use Rattle.std.specs.Option.{option_copied};
-ghost use Rattle.c_meaning.specs.Actions.{action_run, beginning_run, block_run, for_loop, given, returned, step_run, test_run, branch, declaration, do_loop, ends_with, evaluated, passing, unused_run, value_run, while_loop, optional_run};
+ghost use Rattle.c_resolve.specs.Actions.{action_run, beginning_run, block_run, for_loop, given, returned, step_run, test_run, branch, declaration, do_loop, ends_with, evaluated, passing, unused_run, value_run, while_loop, optional_run};
 ghost use Rattle.c_meaning.specs.Turned.{PlansFlow};
 
-use crate::action::{Action, Beginning, Passed};
-use crate::flow::Flow;
-use crate::kind::Held;
-use crate::local::Local;
-use crate::node::Node;
 use crate::pending::{Edge, Loop, Stage, Task, Wanted, Work};
 use crate::planning::plan;
+use c_resolve::{Action, Beginning, Node, Passed};
+use c_semantics::{Flow, Held, Local};
 use c_tree::OutOfMemory;
 
 /// A statement that only ends.
-#[tactic(auto, using(crate::proofs::Runs::assoc))]
+#[tactic(auto, using(c_semantics::proofs::Runs::assoc))]
 fn end(work: &mut Vec<Work<'_>>, flow: Flow) -> Result<(), OutOfMemory>
     ensures { OnOk result (PlansFlow (λ definitions input calls. ends_with flow) work.old.items work.new.items) }
 {
     plan(work, &[Task::Count, Task::End(flow)])
 }
 
-#[tactic(auto, using(crate::proofs::Runs::assoc))]
+#[tactic(auto, using(c_semantics::proofs::Runs::assoc))]
 fn evaluate<'a>(work: &mut Vec<Work<'a>>, node: &'a Node) -> Result<(), OutOfMemory>
     ensures { OnOk result (PlansFlow (λ definitions input calls. evaluated (unused_run definitions input calls node.now)) work.old.items work.new.items) }
 {
     plan(work, &[Task::Count, Task::Eval(Wanted::Nothing, node)])
 }
 
-#[tactic(auto, using(crate::proofs::Runs::assoc))]
+#[tactic(auto, using(c_semantics::proofs::Runs::assoc))]
 fn declare<'a>(
     work: &mut Vec<Work<'a>>,
     counted: bool,
@@ -45,7 +42,7 @@ fn declare<'a>(
 }
 
 /// An `if`, with an `else` or without.
-#[tactic(auto, using(crate::proofs::Runs::assoc))]
+#[tactic(auto, using(c_semantics::proofs::Runs::assoc))]
 fn choose<'a>(
     work: &mut Vec<Work<'a>>,
     test: &'a Node,
@@ -64,7 +61,7 @@ fn choose<'a>(
     )
 }
 
-#[tactic(auto, using(crate::proofs::Runs::assoc))]
+#[tactic(auto, using(c_semantics::proofs::Runs::assoc))]
 fn repeat<'a>(work: &mut Vec<Work<'a>>, test: &'a Node, body: &'a Action) -> Result<(), OutOfMemory>
     ensures { OnOk result (PlansFlow (λ definitions input calls. while_loop (value_run definitions input calls test.now) (action_run definitions input calls body.now)) work.old.items work.new.items) }
 {
@@ -95,7 +92,7 @@ fn repeat_once<'a>(
 }
 
 /// A `for`.
-#[tactic(auto, using(crate::proofs::Runs::assoc))]
+#[tactic(auto, using(c_semantics::proofs::Runs::assoc))]
 fn repeat_from<'a>(
     work: &mut Vec<Work<'a>>,
     locals: &'a [Local],
@@ -111,7 +108,7 @@ fn repeat_from<'a>(
 }
 
 /// A `return`.
-#[tactic(auto, using(crate::proofs::Runs::assoc))]
+#[tactic(auto, using(c_semantics::proofs::Runs::assoc))]
 fn give<'a>(
     work: &mut Vec<Work<'a>>,
     held: Held,
@@ -132,7 +129,7 @@ fn give<'a>(
     }
 }
 
-#[tactic(auto, using(crate::proofs::Runs::assoc))]
+#[tactic(auto, using(c_semantics::proofs::Runs::assoc))]
 fn block<'a>(
     work: &mut Vec<Work<'a>>,
     locals: &'a [Local],
@@ -144,7 +141,7 @@ fn block<'a>(
 }
 
 /// What is to be done for a statement.
-#[tactic(auto, using(crate::proofs::Views::views))]
+#[tactic(auto, using(c_resolve::proofs::Views::views))]
 pub(crate) fn statement<'a>(work: &mut Vec<Work<'a>>, action: &'a Action) -> Result<(), OutOfMemory>
     ensures { OnOk result (PlansFlow (λ definitions input calls. action_run definitions input calls action.now) work.old.items work.new.items) }
 {

@@ -2,21 +2,21 @@
 
 ghost use Rattle.std.specs.Prelude.{◌≡◌, ℕ, List, OnOk};
 ghost use Rattle.c_tree.specs.Syntax.{Part};
-ghost use Rattle.c_meaning.specs.Names.{Definition};
+ghost use Rattle.c_semantics.specs.Names.{Definition};
 ghost use Rattle.c_meaning.specs.Pending.{loop_again};
 ghost use Rattle.c_meaning.specs.Turned.{all_after, task_after, work_after, PlansFlow, Turned};
-ghost use Rattle.c_meaning.specs.declared.flow.Flow.TheVariants.{Normal};
+ghost use Rattle.c_semantics.specs.declared.flow.Flow.TheVariants.{Normal};
 ghost use Rattle.c_meaning.specs.declared.pending.Edge.TheVariants as edge;
 ghost use Rattle.c_meaning.specs.declared.pending.Stage.TheVariants as stage;
 ghost use Rattle.c_meaning.specs.declared.pending.Task.TheVariants as task;
 ghost use Rattle.c_meaning.specs.declared.pending.Work.TheVariants as item;
 
-use crate::flow::Flow;
 use crate::halt::Halt;
 use crate::machine::Machine;
 use crate::pending::{Edge, Loop, Pending, Stage, Task, Wanted, Work};
 use crate::planning::plan;
 use crate::tasks::pop;
+use c_semantics::Flow;
 use c_tree::OutOfMemory;
 
 /// A loop that begins tests at most once more than there are steps, since each test but the last is followed by one. A step was taken before, so one more can be counted.
@@ -36,7 +36,7 @@ pub(crate) fn begin<'a>(
 }
 
 /// A loop tests. A test that is left out holds.
-#[tactic(auto, using(crate::proofs::Runs::assoc))]
+#[tactic(auto, using(c_semantics::proofs::Runs::assoc))]
 pub(crate) fn test<'a>(
     pending: &mut Pending<'a>,
     machine: &mut Machine,
@@ -72,7 +72,7 @@ pub(crate) fn test<'a>(
 }
 
 /// A loop has tested.
-#[tactic(auto, using(crate::proofs::Runs::assoc))]
+#[tactic(auto, using(c_semantics::proofs::Runs::assoc))]
 pub(crate) fn turn<'a>(
     pending: &mut Pending<'a>,
     machine: &mut Machine,
@@ -94,7 +94,7 @@ pub(crate) fn turn<'a>(
 }
 
 /// How a loop goes on that has turned.
-#[tactic(auto, using(crate::proofs::Runs::assoc))]
+#[tactic(auto, using(c_semantics::proofs::Runs::assoc))]
 fn again<'a>(work: &mut Vec<Work<'a>>, how: Stage, parts: Loop<'a>) -> Result<(), OutOfMemory>
     ensures { OnOk result (PlansFlow (λ definitions input calls. loop_again definitions input calls how parts.entry) work.old.items work.new.items) }
 {
@@ -106,7 +106,7 @@ fn again<'a>(work: &mut Vec<Work<'a>>, how: Stage, parts: Loop<'a>) -> Result<()
 }
 
 /// The step of a loop, and then its test.
-#[tactic(auto, using(crate::proofs::Runs::assoc))]
+#[tactic(auto, using(c_semantics::proofs::Runs::assoc))]
 fn step<'a>(work: &mut Vec<Work<'a>>, most: u64, parts: Loop<'a>) -> Result<(), OutOfMemory>
     ensures { OnOk result (PlansFlow (λ definitions input calls. loop_again definitions input calls (stage.Tests most) parts.entry) work.old.items work.new.items) }
 {

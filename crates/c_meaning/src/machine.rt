@@ -2,15 +2,13 @@
 
 ghost use Rattle.std.specs.Prelude.{◌≡◌, ◌+◌, OnOk};
 ghost use Rattle.c_meaning.specs.Machine.{store_of, Ran, SameSteps};
-ghost use Rattle.c_meaning.specs.Memory.{value_at, store_at};
-ghost use Rattle.c_meaning.specs.Names.{address_of};
-ghost use Rattle.c_meaning.specs.Run.{count};
+ghost use Rattle.c_semantics.specs.Memory.{value_at, store_at};
+ghost use Rattle.c_semantics.specs.Names.{address_of};
+ghost use Rattle.c_semantics.specs.Run.{count};
 
 use crate::halt::Halt;
-use crate::home::Home;
-use crate::kind::Held;
-use crate::memory::Memory;
 use crate::output::Output;
+use c_semantics::{Held, Home, Memory};
 use c_tree::Place;
 
 /// A program that runs: its memory and stack pointer, how much of the input was read, what it has put out, and the steps that are left.

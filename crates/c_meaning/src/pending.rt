@@ -1,11 +1,7 @@
 //! What is still to be done of a program.
 
-use crate::action::{Action, Beginning, Passed};
-use crate::flow::Flow;
-use crate::home::Home;
-use crate::kind::{Held, Operand};
-use crate::local::Local;
-use crate::node::{Node, Target};
+use c_resolve::{Action, Beginning, Node, Passed, Target};
+use c_semantics::{Flow, Held, Home, Local, Operand};
 use c_tree::{Binary, Place, Step, Unary};
 
 /// The parts of a loop.

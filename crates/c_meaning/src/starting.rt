@@ -5,14 +5,13 @@ ghost use Rattle.c_tree.specs.Syntax.{Declarator, Part};
 ghost use Rattle.c_tree.specs.View.{declarator, expression, expressions, part, parts, shape};
 ghost use Rattle.c_layout.specs.Laid.{plan};
 ghost use Rattle.c_layout.specs.Outcome.{plan_of};
-ghost use Rattle.c_meaning.specs.Meaning.{item_bytes, items_bytes, given_bytes, filled, first_bytes, global_declarators, start};
-ghost use Rattle.c_meaning.specs.Memory.{digits};
+ghost use Rattle.c_semantics.specs.Meaning.{item_bytes, items_bytes, given_bytes, filled, first_bytes, global_declarators, start};
+ghost use Rattle.c_semantics.specs.Memory.{digits};
 ghost use Rattle.c_meaning.specs.Started.{started};
 
-use crate::memory::Memory;
-use crate::object::Object;
-use crate::resolving::{global_addresses, size};
 use c_layout::Layout;
+use c_resolve::{global_addresses, size};
+use c_semantics::{Memory, Object};
 use c_tree::{CType, Expr, Init, Item, OutOfMemory, Tree, Var};
 use c_types::{convert, pointed, sized, value_of};
 use std::alloc::Global;

@@ -2,21 +2,18 @@
 
 ghost use Rattle.std.specs.Prelude.{◌≡◌, ℕ, List, reverse};
 ghost use Rattle.c_tree.specs.Syntax.{Part};
-ghost use Rattle.c_meaning.specs.Eval.{first_of};
-ghost use Rattle.c_meaning.specs.Names.{Definition};
-ghost use Rattle.c_meaning.specs.Nodes.{converted_by};
+ghost use Rattle.c_semantics.specs.Eval.{first_of};
+ghost use Rattle.c_semantics.specs.Names.{Definition};
+ghost use Rattle.c_resolve.specs.Nodes.{converted_by};
 ghost use Rattle.c_meaning.specs.Pending.{below};
 ghost use Rattle.c_meaning.specs.Turned.{all_after, task_after, Turned};
-ghost use Rattle.c_meaning.specs.declared.flow.Flow.TheVariants.{Normal};
+ghost use Rattle.c_semantics.specs.declared.flow.Flow.TheVariants.{Normal};
 ghost use Rattle.c_meaning.specs.declared.pending.Task.TheVariants as task;
 
-use crate::flow::Flow;
 use crate::halt::Halt;
-use crate::home::Home;
-use crate::kind::{Held, Operand};
-use crate::local::Local;
 use crate::machine::Machine;
 use crate::pending::Pending;
+use c_semantics::{Flow, Held, Home, Local, Operand};
 use c_tree::{Binary, Place, Step, Unary};
 
 /// Takes the topmost value. Where there is none, it is 0.

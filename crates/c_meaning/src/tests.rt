@@ -1,5 +1,3 @@
-//! The memory by tables.
+//! The memory that a program starts with, by tables.
 
-mod live;
-mod memory;
 mod starting;

@@ -1,23 +1,21 @@
 //! Work that is done piece by piece.
 
 ghost use Rattle.std.specs.Prelude.{◌≡◌, ◌<◌, ◌⊎◌, [], ℕ, List, OnOk};
-ghost use Rattle.c_meaning.specs.Names.{Definition};
+ghost use Rattle.c_semantics.specs.Names.{Definition};
 ghost use Rattle.c_tree.specs.Syntax.{Part};
-ghost use Rattle.c_meaning.specs.Routines.{definitions_of, AreRoutinesOf};
+ghost use Rattle.c_resolve.specs.Routines.{definitions_of, AreRoutinesOf};
 ghost use Rattle.c_meaning.specs.Turned.{all_after, task_after, work_after, Turned};
-ghost use Rattle.c_meaning.specs.declared.flow.Flow.TheVariants.{Normal};
+ghost use Rattle.c_semantics.specs.declared.flow.Flow.TheVariants.{Normal};
 ghost use Rattle.c_meaning.specs.declared.pending.Edge.TheVariants as edge;
 ghost use Rattle.c_meaning.specs.declared.pending.Task.TheVariants as task;
 ghost use Rattle.c_meaning.specs.declared.pending.Work.TheVariants as item;
 
-use crate::action::Action;
-use crate::flow::Flow;
 use crate::halt::Halt;
 use crate::machine::Machine;
-use crate::node::Node;
 use crate::pending::{Edge, Loop, Pending, Stage, Task, Wanted, Work};
-use crate::routine::Routine;
 use crate::{blocks, calling, choosing, evaluating, executing, looping, tasks};
+use c_resolve::{Action, Node, Routine};
+use c_semantics::Flow;
 
 /// How many pieces of work are done between two steps at most. No text that fits a file of the largest size comes near.
 const MOST_TURNS: u64 = u64::MAX;

@@ -1,8 +1,8 @@
 //! What globals hold before a program runs.
 
-use crate::memory::Memory;
 use crate::starting::{first_bytes, start_item};
 use bop_bits::DATA_FROM;
+use c_semantics::Memory;
 use c_tree::{CType, Expr, ExprKind, Init, Item, Keep, Name, Place, Unary, Undefined, Var};
 use std::alloc::Global;
 use std::test::Fail;

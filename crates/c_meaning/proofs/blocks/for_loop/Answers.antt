@@ -1,14 +1,14 @@
 use Rattle.std.proofs.Common.{◌∙◌, ℕ, List, [], ◌∷◌, Option, take, sym, ap, reverse}
 use Rattle.std.proofs.lemmas.List.{reverse-append}
-use Rattle.c_meaning.specs.declared.flow.Flow.{Flow}
+use Rattle.c_semantics.specs.declared.flow.Flow.{Flow}
 use Rattle.c_meaning.specs.declared.machine.Machine.{Machine}
 use Rattle.c_meaning.specs.declared.pending.Edge.TheVariants as edge
 use Rattle.c_meaning.specs.declared.pending.Work.{Work}
 use Rattle.c_meaning.specs.declared.pending.Work.TheVariants as item
 use Rattle.c_meaning.specs.Machine.{store_of}
-use Rattle.c_meaning.specs.Meaning.{calls_at}
+use Rattle.c_semantics.specs.Meaning.{calls_at}
 use Rattle.c_meaning.specs.Pending.{after, begun_loop}
-use Rattle.c_meaning.specs.Run.{Run, ◌>>=◌, ◌>>◌, now, change}
+use Rattle.c_semantics.specs.Run.{Run, ◌>>=◌, ◌>>◌, now, change}
 use Rattle.c_meaning.proofs.Living.{with_locals_then, with_open}
 use Rattle.c_meaning.proofs.blocks.for_loop.Goals as goal
 

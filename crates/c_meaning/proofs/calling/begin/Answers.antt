@@ -1,25 +1,25 @@
 use Rattle.std.proofs.Common.{◌≡◌, ◌∙◌, ℕ, List, [], ◌∷◌, Option, take, sym, ap, subst, reverse}
 use Rattle.std.proofs.lemmas.List.{reverse-append}
-use Rattle.c_meaning.specs.declared.flow.Flow.{Flow}
-use Rattle.c_meaning.specs.declared.flow.Flow.TheVariants.{Normal}
-use Rattle.c_meaning.specs.declared.local.Local.{Local}
+use Rattle.c_semantics.specs.declared.flow.Flow.{Flow}
+use Rattle.c_semantics.specs.declared.flow.Flow.TheVariants.{Normal}
+use Rattle.c_semantics.specs.declared.local.Local.{Local}
 use Rattle.c_meaning.specs.declared.machine.Machine.{Machine}
 use Rattle.c_meaning.specs.declared.pending.Edge.TheVariants as edge
 use Rattle.c_meaning.specs.declared.pending.Pending.{Pending}
 use Rattle.c_meaning.specs.declared.pending.Task.TheVariants as task
 use Rattle.c_meaning.specs.declared.pending.Work.{Work}
 use Rattle.c_meaning.specs.declared.pending.Work.TheVariants as item
-use Rattle.c_meaning.specs.declared.routine.Parameter.{Parameter}
-use Rattle.c_meaning.specs.Actions.{arguments_run, body_run}
+use Rattle.c_resolve.specs.declared.routine.Parameter.{Parameter}
+use Rattle.c_resolve.specs.Actions.{arguments_run, body_run}
 use Rattle.c_meaning.specs.Called.{entered_after}
 use Rattle.c_meaning.specs.Machine.{store_of, Ran}
-use Rattle.c_meaning.specs.Meaning.{calls_at}
+use Rattle.c_semantics.specs.Meaning.{calls_at}
 use Rattle.c_meaning.specs.Opened.{opened_all}
 use Rattle.c_meaning.specs.Pending.{after}
-use Rattle.c_meaning.specs.Run.{Run, ◌>>=◌, ◌>>◌, now, change}
+use Rattle.c_semantics.specs.Run.{Run, ◌>>=◌, ◌>>◌, now, change}
 use Rattle.c_meaning.proofs.Halting.{ran_then}
 use Rattle.c_meaning.proofs.Living.{with_locals_then, with_open}
-use Rattle.c_meaning.proofs.Runs.{assoc}
+use Rattle.c_semantics.proofs.Runs.{assoc}
 use Rattle.c_meaning.proofs.calling.begin.Goals as goal
 
 pub returns : goal.returns

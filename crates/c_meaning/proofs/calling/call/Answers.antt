@@ -1,12 +1,12 @@
 use Rattle.std.proofs.Common.{◌∙◌, ℕ, List, Option, drop, take, reverse, sym, ap, subst}
-use Rattle.c_meaning.specs.declared.flow.Flow.TheVariants.{Gave}
+use Rattle.c_semantics.specs.declared.flow.Flow.TheVariants.{Gave}
 use Rattle.c_meaning.specs.declared.machine.Machine.{Machine}
 use Rattle.c_meaning.specs.Machine.{store_of}
-use Rattle.c_meaning.specs.Meaning.{calls_at}
-use Rattle.c_meaning.specs.Nodes.{target_run}
+use Rattle.c_semantics.specs.Meaning.{calls_at}
+use Rattle.c_resolve.specs.Nodes.{target_run}
 use Rattle.c_meaning.specs.Pending.{after}
-use Rattle.c_meaning.specs.Routines.{definitions_of}
-use Rattle.c_meaning.specs.Run.{Run, Ended, then_run, ◌>>=◌}
+use Rattle.c_resolve.specs.Routines.{definitions_of}
+use Rattle.c_semantics.specs.Run.{Run, Ended, then_run, ◌>>=◌}
 use Rattle.c_meaning.specs.Turned.{Turned}
 use Rattle.c_meaning.proofs.calling.call.Goals as goal
 

@@ -1,7 +1,7 @@
 use Rattle.std.proofs.Common.{◌≡◌, ◌∙◌, ◌≤◌, ◌+◌, ◌-◌, ℕ, suc, List, [], ◌∷◌, Option, sym, ap, subst, reverse, arith}
 use Rattle.std.proofs.lemmas.List.{reverse-append}
 use Rattle.bop_bits.specs.declared.map.TheConstants.{STACK_FROM}
-use Rattle.c_meaning.specs.declared.flow.Flow.TheVariants.{Gave}
+use Rattle.c_semantics.specs.declared.flow.Flow.TheVariants.{Gave}
 use Rattle.c_meaning.specs.declared.machine.Machine.{Machine}
 use Rattle.c_meaning.specs.declared.pending.Edge.TheVariants as edge
 use Rattle.c_meaning.specs.declared.pending.Pending.{Pending}
@@ -10,7 +10,7 @@ use Rattle.c_meaning.specs.declared.pending.Work.TheVariants as item
 use Rattle.c_meaning.specs.Called.{entered, entered_after}
 use Rattle.c_meaning.specs.Machine.{store_of}
 use Rattle.c_meaning.specs.Pending.{after}
-use Rattle.c_meaning.specs.Run.{Run, Ended, ◌>>=◌}
+use Rattle.c_semantics.specs.Run.{Run, Ended, ◌>>=◌}
 use Rattle.c_meaning.specs.Turned.{Turned}
 use Rattle.c_meaning.proofs.Framing.{in_frame_then}
 use Rattle.c_meaning.proofs.calling.enter.Goals as goal

@@ -1,14 +1,14 @@
 use Rattle.std.proofs.Common.{◌≡◌, ◌∙◌, ◌≤◌, ◌-◌, ℕ, List, ◌∷◌, [], Option, take, drop, length, sym, ap, reverse, arith, slice_index_or}
 use Rattle.std.proofs.lemmas.List.{take_all}
-use Rattle.c_meaning.specs.declared.flow.Flow.{Flow}
-use Rattle.c_meaning.specs.declared.flow.Flow.TheVariants.{Normal}
-use Rattle.c_meaning.specs.declared.action.Passed.{Passed}
+use Rattle.c_semantics.specs.declared.flow.Flow.{Flow}
+use Rattle.c_semantics.specs.declared.flow.Flow.TheVariants.{Normal}
+use Rattle.c_resolve.specs.declared.action.Passed.{Passed}
 use Rattle.c_meaning.specs.declared.pending.Work.{Work}
-use Rattle.c_meaning.specs.Actions.{passing}
+use Rattle.c_resolve.specs.Actions.{passing}
 use Rattle.c_meaning.specs.Machine.{store_of}
-use Rattle.c_meaning.specs.Meaning.{calls_at}
+use Rattle.c_semantics.specs.Meaning.{calls_at}
 use Rattle.c_meaning.specs.Pending.{after}
-use Rattle.c_meaning.specs.Run.{Run, ◌>>◌}
+use Rattle.c_semantics.specs.Run.{Run, ◌>>◌}
 use Rattle.c_meaning.proofs.Planned.{passing_then}
 use Rattle.c_meaning.proofs.choosing.pass.Goals as goal
 

@@ -1,13 +1,13 @@
 use Rattle.std.proofs.Common.{ℕ, ◌∙◌, sym, ap, reverse}
 use Rattle.c_tree.specs.declared.operator.Binary.TheVariants as binary
-use Rattle.c_meaning.specs.declared.flow.Flow.TheVariants.{Normal}
-use Rattle.c_meaning.specs.Actions.{value_run}
-use Rattle.c_meaning.specs.Eval.{infix_act, strict}
-use Rattle.c_meaning.specs.Meaning.{calls_at}
-use Rattle.c_meaning.specs.Memory.{value_at}
+use Rattle.c_semantics.specs.declared.flow.Flow.TheVariants.{Normal}
+use Rattle.c_resolve.specs.Actions.{value_run}
+use Rattle.c_semantics.specs.Eval.{infix_act, strict}
+use Rattle.c_semantics.specs.Meaning.{calls_at}
+use Rattle.c_semantics.specs.Memory.{value_at}
 use Rattle.c_meaning.specs.Pending.{after, with_value}
-use Rattle.c_meaning.specs.Run.{Run, count, ◌>>=◌, ◌>>◌}
-use Rattle.c_meaning.proofs.Runs.{assoc, assoc_two}
+use Rattle.c_semantics.specs.Run.{Run, count, ◌>>=◌, ◌>>◌}
+use Rattle.c_semantics.proofs.Runs.{assoc, assoc_two}
 use Rattle.c_meaning.proofs.evaluating.element.Goals as goal
 
 pub returns : goal.returns

@@ -1,13 +1,13 @@
 use Rattle.std.proofs.Common.{◌∙◌, sym, ap, reverse}
-use Rattle.c_meaning.specs.declared.flow.Flow.TheVariants.{Normal}
+use Rattle.c_semantics.specs.declared.flow.Flow.TheVariants.{Normal}
 use Rattle.c_meaning.specs.Acts.{stepped_at}
-use Rattle.c_meaning.specs.Eval.{stepped}
-use Rattle.c_meaning.specs.Meaning.{calls_at}
-use Rattle.c_meaning.specs.Nodes.{runs}
+use Rattle.c_semantics.specs.Eval.{stepped}
+use Rattle.c_semantics.specs.Meaning.{calls_at}
+use Rattle.c_resolve.specs.Nodes.{runs}
 use Rattle.c_meaning.specs.Pending.{after, with_value}
-use Rattle.c_meaning.specs.Run.{count, ◌>>=◌, ◌>>◌}
-use Rattle.c_meaning.proofs.Runs.{assoc}
-use Rattle.c_meaning.proofs.Views.{place_is}
+use Rattle.c_semantics.specs.Run.{count, ◌>>=◌, ◌>>◌}
+use Rattle.c_semantics.proofs.Runs.{assoc}
+use Rattle.c_resolve.proofs.Views.{place_is}
 use Rattle.c_meaning.proofs.evaluating.step.Goals as goal
 
 pub returns : goal.returns

@@ -1,9 +1,9 @@
 use Rattle.std.proofs.Common.{subst}
-use Rattle.c_meaning.specs.declared.node.NodeKind.TheVariants as k
-use Rattle.c_meaning.specs.Nodes.{called, call_of, ignored}
+use Rattle.c_resolve.specs.declared.node.NodeKind.TheVariants as k
+use Rattle.c_resolve.specs.Nodes.{called, call_of, ignored}
 use Rattle.c_meaning.specs.Turned.{PlansNothing}
 use Rattle.c_meaning.proofs.Planned.{plans_nothing}
-use Rattle.c_meaning.proofs.Views.{call_is}
+use Rattle.c_resolve.proofs.Views.{call_is}
 use Rattle.c_meaning.proofs.evaluating.unused.Goals as goal
 
 pub returns-in_ok-unused_call-in-Call : goal.returns-in_ok-unused_call-in-Call

@@ -1,17 +1,17 @@
 use Rattle.std.proofs.Common.{◌∙◌, ℕ, List, ◌∷◌, [], ◌++◌, Option, sym, ap, reverse, length, refl}
 use Rattle.std.proofs.lemmas.List.{reverse-append}
 use Rattle.c_tree.specs.declared.undefined.Undefined.TheVariants.{NoValue}
-use Rattle.c_meaning.specs.declared.flow.Flow.TheVariants.{Normal}
+use Rattle.c_semantics.specs.declared.flow.Flow.TheVariants.{Normal}
 use Rattle.c_meaning.specs.declared.pending.Edge.TheVariants as edge
 use Rattle.c_meaning.specs.declared.pending.Task.TheVariants as task
 use Rattle.c_meaning.specs.declared.pending.Work.{Work}
 use Rattle.c_meaning.specs.declared.pending.Work.TheVariants as work
-use Rattle.c_meaning.specs.Meaning.{calls_at}
-use Rattle.c_meaning.specs.Nodes.{call_of}
+use Rattle.c_semantics.specs.Meaning.{calls_at}
+use Rattle.c_resolve.specs.Nodes.{call_of}
 use Rattle.c_meaning.specs.Pending.{after, with_value}
-use Rattle.c_meaning.specs.Run.{Run, given_or}
+use Rattle.c_semantics.specs.Run.{Run, given_or}
 use Rattle.c_meaning.proofs.Arguments.{called_then}
-use Rattle.c_meaning.proofs.Runs.{assoc}
+use Rattle.c_semantics.proofs.Runs.{assoc}
 use Rattle.c_meaning.proofs.evaluating.used_call.Goals as goal
 
 pub returns : goal.returns

@@ -1,12 +1,12 @@
 use Rattle.std.proofs.Common.{subst}
 use Rattle.c_tree.specs.declared.operator.Binary.TheVariants as binary
-use Rattle.c_meaning.specs.declared.node.NodeKind.TheVariants as k
-use Rattle.c_meaning.specs.Actions.{value_run}
-use Rattle.c_meaning.specs.Eval.{strict}
-use Rattle.c_meaning.specs.Nodes.{placed, element_run, called, call_of, used}
+use Rattle.c_resolve.specs.declared.node.NodeKind.TheVariants as k
+use Rattle.c_resolve.specs.Actions.{value_run}
+use Rattle.c_semantics.specs.Eval.{strict}
+use Rattle.c_resolve.specs.Nodes.{placed, element_run, called, call_of, used}
 use Rattle.c_meaning.specs.Turned.{Plans}
 use Rattle.c_meaning.proofs.Planned.{plans_value}
-use Rattle.c_meaning.proofs.Views.{element_is, call_is}
+use Rattle.c_resolve.proofs.Views.{element_is, call_is}
 use Rattle.c_meaning.proofs.evaluating.value.Goals as goal
 
 pub returns-in_ok-element-in-Element : goal.returns-in_ok-element-in-Element

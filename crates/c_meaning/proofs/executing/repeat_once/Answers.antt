@@ -1,19 +1,19 @@
 use Rattle.std.proofs.Common.{◌∙◌, List, [], ◌∷◌, ◌++◌, Some, None, sym, ap, reverse}
 use Rattle.std.proofs.lemmas.List.{reverse-append}
-use Rattle.c_meaning.specs.declared.flow.Flow.{Flow}
-use Rattle.c_meaning.specs.declared.flow.Flow.TheVariants.{Normal}
+use Rattle.c_semantics.specs.declared.flow.Flow.{Flow}
+use Rattle.c_semantics.specs.declared.flow.Flow.TheVariants.{Normal}
 use Rattle.c_meaning.specs.declared.pending.Edge.TheVariants as edge
 use Rattle.c_meaning.specs.declared.pending.Loop.{Loop}
 use Rattle.c_meaning.specs.declared.pending.Stage.TheVariants as stage
 use Rattle.c_meaning.specs.declared.pending.Task.TheVariants as task
 use Rattle.c_meaning.specs.declared.pending.Work.{Work}
 use Rattle.c_meaning.specs.declared.pending.Work.TheVariants as work
-use Rattle.c_meaning.specs.Actions.{action_run, value_run}
-use Rattle.c_meaning.specs.Exec.{after_turn, loop}
-use Rattle.c_meaning.specs.Meaning.{calls_at}
+use Rattle.c_resolve.specs.Actions.{action_run, value_run}
+use Rattle.c_semantics.specs.Exec.{after_turn, loop}
+use Rattle.c_semantics.specs.Meaning.{calls_at}
 use Rattle.c_meaning.specs.Pending.{Rest, after}
-use Rattle.c_meaning.specs.Run.{Run, ◌>>=◌, ◌>>◌, count, pure}
-use Rattle.c_meaning.proofs.Runs.{assoc}
+use Rattle.c_semantics.specs.Run.{Run, ◌>>=◌, ◌>>◌, count, pure}
+use Rattle.c_semantics.proofs.Runs.{assoc}
 use Rattle.c_meaning.proofs.executing.repeat_once.Goals as goal
 
 pub returns : goal.returns

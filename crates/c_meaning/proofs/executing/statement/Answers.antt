@@ -1,8 +1,8 @@
 use Rattle.std.proofs.Common.{◌∙◌, ap, subst, Some, None}
-use Rattle.c_meaning.specs.Actions.{action_run, branch, block_run, optional_run, value_run}
+use Rattle.c_resolve.specs.Actions.{action_run, branch, block_run, optional_run, value_run}
 use Rattle.c_meaning.specs.Turned.{PlansFlow}
 use Rattle.c_meaning.proofs.Planned.{plans_flow}
-use Rattle.c_meaning.proofs.Views.{block_is, branch_is, fork_is}
+use Rattle.c_resolve.proofs.Views.{block_is, branch_is, fork_is}
 use Rattle.c_meaning.proofs.executing.statement.Goals as goal
 
 pub returns-in_ok-block-in-Block : goal.returns-in_ok-block-in-Block

@@ -1,14 +1,14 @@
 use Rattle.std.proofs.Common.{◌≡◌, ◌∙◌, ℕ, List, ◌∷◌, Option, suc, ◌+◌, sym, ap, reverse, arith}
-use Rattle.c_meaning.specs.declared.flow.Flow.{Flow}
-use Rattle.c_meaning.specs.declared.flow.Flow.TheVariants.{Normal}
+use Rattle.c_semantics.specs.declared.flow.Flow.{Flow}
+use Rattle.c_semantics.specs.declared.flow.Flow.TheVariants.{Normal}
 use Rattle.c_meaning.specs.declared.pending.Stage.TheVariants as stage
 use Rattle.c_meaning.specs.declared.pending.Task.TheVariants as task
 use Rattle.c_meaning.specs.declared.pending.Work.{Work}
 use Rattle.c_meaning.specs.declared.pending.Work.TheVariants as work
 use Rattle.c_meaning.specs.Machine.{store_of}
-use Rattle.c_meaning.specs.Meaning.{calls_at}
+use Rattle.c_semantics.specs.Meaning.{calls_at}
 use Rattle.c_meaning.specs.Pending.{after, loop_turns}
-use Rattle.c_meaning.specs.Run.{Run, ◌>>=◌}
+use Rattle.c_semantics.specs.Run.{Run, ◌>>=◌}
 use Rattle.c_meaning.proofs.looping.begin.Goals as goal
 
 pub returns : goal.returns

@@ -1,11 +1,11 @@
 use Rattle.std.proofs.Common.{◌≡◌, ℕ, List, Option, IfOk, sym, subst}
 use Rattle.c_tree.specs.declared.tree.Tree.{Tree}
 use Rattle.c_tree.specs.View.{parts}
-use Rattle.c_meaning.specs.declared.routine.Routine.{Routine}
+use Rattle.c_resolve.specs.declared.routine.Routine.{Routine}
 use Rattle.c_meaning.specs.Answer.{meaning_of}
-use Rattle.c_meaning.specs.Meaning.{meant, run_of}
-use Rattle.c_meaning.specs.Routines.{definitions_of, AreRoutinesOf}
-use Rattle.c_meaning.specs.Run.{Ended}
+use Rattle.c_semantics.specs.Meaning.{meant, run_of}
+use Rattle.c_resolve.specs.Routines.{definitions_of, AreRoutinesOf}
+use Rattle.c_semantics.specs.Run.{Ended}
 use Rattle.c_meaning.specs.Turned.{Turned}
 use Rattle.c_meaning.proofs.Ending.{ends_by, ok_means}
 use Rattle.c_meaning.proofs.meaning.evaluate.Goals as goal

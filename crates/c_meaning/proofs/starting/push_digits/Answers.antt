@@ -1,5 +1,5 @@
 use Rattle.std.proofs.Common.{◌≡◌, suc, ◌+◌, ◌-◌, ◌/◌, ◌%◌, [], ◌∷◌, ◌++◌, ap, sym, ◌∙◌, arith, append_assoc}
-use Rattle.c_meaning.specs.Memory.{digits}
+use Rattle.c_semantics.specs.Memory.{digits}
 use Rattle.c_meaning.proofs.starting.push_digits.Goals as goal
 
 pub loop-byte-preserved : goal.loop-byte-preserved

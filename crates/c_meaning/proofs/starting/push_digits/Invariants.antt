@@ -1,5 +1,5 @@
 use Rattle.std.proofs.Common.{◌≡◌, ◌-◌, ◌++◌}
-use Rattle.c_meaning.specs.Memory.{digits}
+use Rattle.c_semantics.specs.Memory.{digits}
 use Rattle.c_meaning.proofs.starting.push_digits.Given as goal
 
 abbrev pub invariant-loop-byte : goal.invariant-loop-byte

@@ -4,11 +4,11 @@ use Rattle.bop_bits.specs.declared.map.TheConstants.{MEMORY_BYTES}
 use Rattle.c_tree.specs.declared.tree.Item.{Item}
 use Rattle.c_tree.specs.View.{part, parts}
 use Rattle.c_layout.specs.Globals.{globals, addresses}
-use Rattle.c_meaning.specs.Contents.{unwritten}
-use Rattle.c_meaning.specs.Meaning.{global_declarators, global_objects, with_first_bytes}
+use Rattle.c_semantics.specs.Contents.{unwritten}
+use Rattle.c_semantics.specs.Meaning.{global_declarators, global_objects, with_first_bytes}
 use Rattle.c_meaning.specs.Started.{started}
 use Rattle.c_meaning.proofs.FirstValues.{none_started, started_is}
-use Rattle.c_meaning.proofs.Written.{unwritten_is}
+use Rattle.c_semantics.proofs.Written.{unwritten_is}
 use Rattle.c_meaning.proofs.starting.start_memory.Goals as goal
 
 pub returns : goal.returns

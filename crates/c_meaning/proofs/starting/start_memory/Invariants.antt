@@ -2,8 +2,8 @@ use Rattle.std.proofs.Common.{◌≡◌, [], map, drop}
 use Rattle.bop_bits.specs.declared.map.TheConstants.{MEMORY_BYTES}
 use Rattle.c_tree.specs.View.{part, parts}
 use Rattle.c_layout.specs.Globals.{globals, addresses}
-use Rattle.c_meaning.specs.Contents.{unwritten}
-use Rattle.c_meaning.specs.Meaning.{global_declarators}
+use Rattle.c_semantics.specs.Contents.{unwritten}
+use Rattle.c_semantics.specs.Meaning.{global_declarators}
 use Rattle.c_meaning.specs.Started.{started}
 use Rattle.c_meaning.proofs.starting.start_memory.Given as goal
 

@@ -6,10 +6,10 @@ use Rattle.c_meaning.specs.declared.machine.Machine.{Machine}
 use Rattle.c_meaning.specs.declared.pending.Pending.{Pending}
 use Rattle.c_meaning.specs.declared.pending.Work.{Work}
 use Rattle.c_meaning.specs.Machine.{store_of}
-use Rattle.c_meaning.specs.Names.{Definition}
+use Rattle.c_semantics.specs.Names.{Definition}
 use Rattle.c_meaning.specs.Pending.{after}
-use Rattle.c_meaning.specs.Routines.{definitions_of}
-use Rattle.c_meaning.specs.Run.{Ended}
+use Rattle.c_resolve.specs.Routines.{definitions_of}
+use Rattle.c_semantics.specs.Run.{Ended}
 use Rattle.c_meaning.specs.Turned.{all_after}
 use Rattle.c_meaning.proofs.turning.until_a_step.Goals as goal
 

@@ -1,6 +1,6 @@
 use Rattle.std.proofs.Common.{◌≡◌, List}
 use Rattle.c_tree.specs.Syntax.{Part}
-use Rattle.c_meaning.specs.Routines.{definitions_of, AreRoutinesOf}
+use Rattle.c_resolve.specs.Routines.{definitions_of, AreRoutinesOf}
 use Rattle.c_meaning.specs.Turned.{all_after}
 use Rattle.c_meaning.proofs.turning.until_a_step.Given as goal
 

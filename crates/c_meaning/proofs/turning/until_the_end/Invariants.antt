@@ -1,7 +1,7 @@
 use Rattle.std.proofs.Common.{◌≡◌, ℕ, suc, List, [], ◌∷◌}
 use Rattle.c_tree.specs.Syntax.{Part}
 use Rattle.c_meaning.specs.declared.pending.Work.{Work}
-use Rattle.c_meaning.specs.Routines.{definitions_of, AreRoutinesOf}
+use Rattle.c_resolve.specs.Routines.{definitions_of, AreRoutinesOf}
 use Rattle.c_meaning.specs.Turned.{all_after}
 use Rattle.c_meaning.proofs.turning.until_the_end.Given as goal
 

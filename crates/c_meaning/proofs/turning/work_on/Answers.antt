@@ -1,4 +1,4 @@
-use Rattle.c_meaning.specs.Routines.{definitions_of}
+use Rattle.c_resolve.specs.Routines.{definitions_of}
 use Rattle.c_meaning.proofs.turning.work_on.Goals as goal
 
 pub returns-in-Eval : goal.returns-in-Eval

@@ -1,6 +1,0 @@
-use Rattle.std.proofs.Common.{◌≡◌}
-use Rattle.c_meaning.specs.Memory.{blank}
-use Rattle.c_meaning.proofs.bytes.blank.Given as goal
-
-abbrev pub invariant-loop-offset : goal.invariant-loop-offset
-invariant-loop-offset l = l.cells ≡ blank l.at l.offset l.fn.cells

@@ -1,6 +1,0 @@
-use Rattle.std.proofs.Common.{◌≤◌}
-use Rattle.c_meaning.specs.declared.node.Node.{size-Node}
-use Rattle.c_meaning.proofs.node.Node.+node.Given as goal
-
-abbrev pub invariant-first : goal.invariant-first
-invariant-first l = size-Node l.self ≤ size-Node l.initial.self

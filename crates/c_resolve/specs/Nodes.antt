@@ -1,0 +1,128 @@
+-- What an expression does whose names and types are worked out.
+use Rattle.std.specs.Prelude.{ℕ, ◌%◌, ◌^◌, List, [], ◌∷◌, Option, None, map, slice_get}
+use Rattle.c_tree.specs.declared.operator.Binary.TheVariants as binary
+use Rattle.c_tree.specs.declared.place.Place.{Place}
+use Rattle.c_tree.specs.declared.undefined.Undefined.TheVariants.{NoValue}
+use Rattle.c_semantics.specs.declared.home.Home.{Home}
+use Rattle.c_semantics.specs.declared.kind.Held.{Held}
+use Rattle.c_semantics.specs.declared.kind.Held.TheVariants.{Byte, Word, Array}
+use Rattle.c_semantics.specs.declared.kind.Operand.{Operand}
+use Rattle.c_resolve.specs.declared.node.Node.{Node}
+use Rattle.c_resolve.specs.declared.node.NodeKind.{NodeKind}
+use Rattle.c_resolve.specs.declared.node.NodeKind.TheOpen.{NodeKind-F}
+use Rattle.c_resolve.specs.declared.node.NodeKind.TheOpen as one
+use Rattle.c_resolve.specs.declared.node.NodeKind.TheFolds.{fold-Node, fold-NodeKind}
+use Rattle.c_resolve.specs.declared.node.Target.{Target}
+use Rattle.c_resolve.specs.declared.node.Target.TheVariants as target
+use Rattle.c_semantics.specs.Run.{Run, pure, ◌>>=◌, ◌>>◌, count, given_or}
+use Rattle.c_semantics.specs.Memory.{value_at}
+use Rattle.c_semantics.specs.Names.{Definition, address_of}
+use Rattle.c_semantics.specs.Eval.{Calls, enter, getchar, putchar, call, strict, infix_run, prefix_run, stepped, stored, choice}
+
+-- what a run does, without its value
+abbrev pub ignored : {A : Type 0} → Run A → Run (Unit {0})
+ignored r = r >> pure tt
+
+-- an expression's value, its address, what it does where its value isn't used, and its place
+pub record Runs : Type 0 where
+  pub value : Run ℕ
+  pub address : Run ℕ
+  pub unused : Run (Unit {0})
+  pub place : Place
+
+-- of an expression that may be a place
+abbrev pub placed : Run ℕ → Run ℕ → Place → Runs
+placed value address at = record { value = value; address = address; unused = ignored value; place = at }
+
+-- of one that isn't
+abbrev pub valued : Run ℕ → Place → Runs
+valued value at = placed value (pure 0) at
+
+abbrev pub constant : ℕ → Run ℕ
+constant n = do
+  count
+  pure n
+
+abbrev pub variable_address : Home → Run ℕ
+variable_address home = do
+  count
+  address_of home
+
+abbrev pub variable : Home → Held → Place → Run ℕ
+variable home h at = do
+  x ← variable_address home
+  value_at h x at
+
+abbrev pub element_run : Operand → Operand → Held → Place → Run ℕ → Run ℕ → Run ℕ
+element_run c d h at a b = do
+  x ← strict binary.Plus c d at a b
+  value_at h x at
+
+abbrev pub pointer : Run ℕ → Run ℕ
+pointer a = do
+  x ← a
+  count
+  pure x
+
+-- a value of a type that is held so
+abbrev pub converted_by : Held → ℕ → ℕ
+converted_by Byte x = x % 2 ^ 8
+converted_by Word x = x % 2 ^ 32
+converted_by Array x = x % 2 ^ 32
+
+abbrev pub conversion : Held → Run ℕ → Run ℕ
+conversion h a = do
+  x ← a
+  count
+  pure (converted_by h x)
+
+abbrev pub used : Run (Option ℕ) → Place → Run ℕ
+used run at = do
+  v ← run
+  given_or NoValue at v
+
+abbrev pub called : Run (Option ℕ) → Place → Runs
+called run at = record { value = used run at; address = pure 0; unused = ignored run; place = at }
+
+abbrev pub all_values : List Runs → Run (List ℕ)
+all_values [] = pure []
+all_values (r ∷ rs) = do
+  v ← r.value
+  vs ← all_values rs
+  pure (v ∷ vs)
+
+-- what a node does, by what its kind does at each place
+abbrev pub at_place : (Place → Runs) → Place → Runs
+at_place kind at = record (kind at) { place = at }
+
+module _ (definitions : List Definition) (input : List ℕ) (calls : Calls) where
+  abbrev pub target_run : Target → List ℕ → Run (Option ℕ)
+  target_run (target.Function k) vs = enter calls (slice_get definitions k) vs
+  target_run target.Getchar vs = getchar input
+  target_run target.Putchar vs = putchar vs
+  target_run target.Undefined vs = enter calls None vs
+
+  -- one level of an expression, with what each operand does in its place
+  abbrev pub node_step : NodeKind-F (Place → Runs) Runs → Place → Runs
+  node_step (one.Constant n) at = valued (constant n) at
+  node_step (one.Variable home h) at = placed (variable home h at) (variable_address home) at
+  node_step (one.Prefix op c h a) at = placed (prefix_run op c h at a.value.value a.value.address) (pointer a.value.value) at
+  node_step (one.Step how c h a) at = valued (stepped how c h a.value.place at a.value.address) at
+  node_step (one.Convert h a) at = valued (conversion h a.value.value) at
+  node_step (one.Infix op c d a b) at = valued (infix_run op c d at a.value.value b.value.value) at
+  node_step (one.Choice c a b) at = valued (choice c.value.value a.value.value b.value.value) at
+  node_step (one.Assign how c d h a b) at = valued (stored how c d h a.value.place at a.value.address b.value.value) at
+  node_step (one.Element c d h a b) at =
+      placed (element_run c d h at a.value.value b.value.value) (strict binary.Plus c d at a.value.value b.value.value) at
+  node_step (one.Call t all) at = called (call (all_values all.items) (target_run t)) at
+
+  abbrev pub runs : Node → Runs
+  runs = fold-Node (Place → Runs) Runs node_step (λ n. at_place n.kind n.place)
+
+  -- what a kind does at each place
+  abbrev pub runs_of_kind : NodeKind → Place → Runs
+  runs_of_kind = fold-NodeKind (Place → Runs) Runs node_step (λ n. at_place n.kind n.place)
+
+  -- a call of some nodes as arguments
+  abbrev pub call_of : Target → List Node → Run (Option ℕ)
+  call_of t all = call (all_values (map runs all)) (target_run t)

@@ -1,0 +1,212 @@
+//! Expressions.
+
+ghost use Rattle.std.specs.Prelude.{◌≡◌, ℕ, List, true, None, map, IfOk};
+ghost use Rattle.c_tree.specs.Rules.{is_place};
+ghost use Rattle.c_tree.specs.Syntax.{Called, Variable};
+ghost use Rattle.c_tree.specs.Typing.{type_at, all_taken};
+ghost use Rattle.c_tree.specs.View.{expression, expressions};
+ghost use Rattle.c_types.specs.Call.{parameters};
+ghost use Rattle.c_types.specs.Seen.{seen_some, is_flat};
+ghost use Rattle.c_types.specs.Spine.{first_operand, below, down};
+ghost use Rattle.c_semantics.specs.Eval.{Calls, arguments};
+ghost use Rattle.c_semantics.specs.Names.{Definition, types};
+ghost use Rattle.c_resolve.specs.Nodes.{runs, all_values};
+ghost use Rattle.c_resolve.specs.Resolved.{names_in, IsTypeOf, IsNodeOf};
+
+use crate::callee::{parameters, target, value_type};
+use crate::named::Named;
+use crate::names::Names;
+use crate::node::{Node, NodeKind};
+use crate::part::{assign, cast, choice, constant, index, infix, prefix, step, variable};
+use crate::typed::Typed;
+use c_semantics::Home;
+use c_tree::{Callee, Expr, ExprKind, Name, OutOfMemory, Place};
+use c_types::{
+    Along, Base, LIMIT, Parameters, Passed, Seen, descend, follow, is_nought, is_place, operand,
+    where_right,
+};
+use std::alloc::Global;
+
+/// A name.
+#[tactic(auto, using(crate::proofs::Resolved::typed_name))]
+fn named<'a>(name: &Name, names: &'a Names, at: Place) -> Typed<'a>
+    ensures ty { IsTypeOf names.now result.ty (Variable name.now at) }
+    ensures flat { is_flat result.ty ≡ true }
+    ensures means { IsNodeOf names.now result.node (Variable name.now at) }
+{
+    match names.find(name) {
+        Some(Named::Variable(ty, home)) => variable(*home, Some(Seen::of(ty)), at),
+        _ => variable(Home::Nowhere, None, at),
+    }
+}
+
+/// The arguments of a call, and whether the parameters take them.
+#[derive(Drop)]
+struct AllArguments {
+    nodes: Vec<Node>,
+    are_taken: bool,
+}
+
+#[cycle(resolving)]
+fn arguments<'a>(
+    alloc: Global,
+    args: &'a [Expr],
+    taken: Parameters<'a>,
+    names: &'a Names,
+) -> Result<AllArguments, OutOfMemory>
+    ensures taken { IfOk result (λ r. (definitions : List Definition) → r.are_taken ≡ all_taken (types (names_in definitions names.now)) (parameters taken.entry) (expressions args.now)) }
+    ensures means { IfOk result (λ r. (definitions : List Definition) → (input : List ℕ) → (calls : Calls) →
+        all_values (map (runs definitions input calls) r.nodes.items) ≡ arguments input calls (names_in definitions names.now) (expressions args.now)) }
+{
+    let mut nodes = Vec::new(alloc);
+    let mut passed = Passed {
+        counts: true,
+        fits: true,
+        typed: true,
+    };
+    let mut rest = taken;
+    for arg in args {
+        let value = resolve(alloc, arg, names)?;
+        passed = rest.pass(passed, is_nought(arg), value.ty);
+        rest = rest.others();
+        nodes.push(value.node)?;
+    }
+    Ok(AllArguments {
+        nodes,
+        are_taken: rest.end(passed).typed,
+    })
+}
+
+/// A call.
+#[cycle(resolving)]
+fn call<'a>(
+    alloc: Global,
+    callee: &'a Callee,
+    args: &'a [Expr],
+    names: &'a Names,
+    at: Place,
+) -> Result<Typed<'a>, OutOfMemory>
+    ensures ty { IfOk result (λ t. IsTypeOf names.now t.ty (Called callee.now (expressions args.now) at)) }
+    ensures means { IfOk result (λ t. IsNodeOf names.now t.node (Called callee.now (expressions args.now) at)) }
+{
+    let all = arguments(alloc, args, parameters(callee, names), names)?;
+    let ty = where_right(all.are_taken, value_type(callee, names));
+    let kind = NodeKind::Call(target(callee, names), all.nodes);
+    Ok(Typed {
+        node: Node { kind, place: at },
+        ty,
+    })
+}
+
+/// An expression without a first operand.
+#[cycle(resolving)]
+#[tactic(auto, using(c_tree::proofs::Views::views))]
+fn leaf<'a>(alloc: Global, e: &'a Expr, names: &'a Names) -> Result<Typed<'a>, OutOfMemory>
+    requires { first_operand (expression e.now) ≡ None }
+    ensures ty { IfOk result (λ t. IsTypeOf names.now t.ty (expression e.now)) }
+    ensures flat { IfOk result (λ t. is_place (expression e.now) ≡ true → is_flat t.ty ≡ true) }
+    ensures means { IfOk result (λ t. IsNodeOf names.now t.node (expression e.now)) }
+{
+    match &e.kind {
+        ExprKind::Name(name) => Ok(named(name, names, e.place)),
+        ExprKind::Number(ty, value) => Ok(constant(*value, Seen::of(ty), e.place)),
+        ExprKind::Character(code) => Ok(constant(*code, Seen::Is(Base::Int), e.place)),
+        ExprKind::Eof => Ok(constant(u32::MAX, Seen::Is(Base::Int), e.place)),
+        ExprKind::Call(callee, args) => call(alloc, callee, args.as_slice(), names, e.place),
+        _ => unreachable!(),
+    }
+}
+
+/// An expression over its first operand, which is resolved.
+#[cycle(resolving)]
+#[tactic(auto, using(c_tree::proofs::Views::views))]
+fn above<'a>(
+    alloc: Global,
+    e: &'a Expr,
+    first: Typed<'a>,
+    names: &'a Names,
+) -> Result<Typed<'a>, OutOfMemory>
+    requires ty { IsTypeOf names.now first.ty (below Along.Operands (expression e.now)) }
+    requires flat { is_place (below Along.Operands (expression e.now)) ≡ true → is_flat first.ty ≡ true }
+    requires means { IsNodeOf names.now first.node (below Along.Operands (expression e.now)) }
+    ensures ty { IfOk result (λ t. IsTypeOf names.now t.ty (expression e.now)) }
+    ensures flat { IfOk result (λ t. is_place (expression e.now) ≡ true → is_flat t.ty ≡ true) }
+    ensures means { IfOk result (λ t. IsNodeOf names.now t.node (expression e.now)) }
+{
+    match &e.kind {
+        ExprKind::Name(_) => Ok(first),
+        ExprKind::Number(_, _) => Ok(first),
+        ExprKind::Character(_) => Ok(first),
+        ExprKind::Eof => Ok(first),
+        ExprKind::Call(_, _) => Ok(first),
+        ExprKind::Unary(op, a) => prefix(alloc, *op, is_place(a), first, e.place),
+        ExprKind::Step(how, a) => step(alloc, *how, is_place(a), first, e.place),
+        ExprKind::Cast(to, _) => cast(alloc, to, first, e.place),
+        ExprKind::Binary(op, a, b) => {
+            let second = resolve(alloc, b, names)?;
+            let noughts = (is_nought(a), is_nought(b));
+            infix(alloc, *op, noughts, first, second, e.place)
+        }
+        ExprKind::Conditional(_, a, b) => {
+            let left = resolve(alloc, a, names)?;
+            let right = resolve(alloc, b, names)?;
+            let noughts = (is_nought(a), is_nought(b));
+            choice(alloc, noughts, first, left, right, e.place)
+        }
+        ExprKind::Assign(how, a, b) => {
+            let second = resolve(alloc, b, names)?;
+            let rule = (*how, is_nought(b));
+            assign(alloc, rule, is_place(a), first, second, e.place)
+        }
+        ExprKind::Index(_, b) => {
+            let second = resolve(alloc, b, names)?;
+            index(alloc, first, second, e.place)
+        }
+    }
+}
+
+/// An expression over an operand so many steps further down, which is resolved.
+#[cycle(resolving)]
+fn rise<'a>(
+    alloc: Global,
+    e: &'a Expr,
+    count: u32,
+    end: Typed<'a>,
+    names: &'a Names,
+) -> Result<Typed<'a>, OutOfMemory>
+    requires ty { IsTypeOf names.now end.ty (down Along.Operands count (expression e.now)) }
+    requires flat { is_place (down Along.Operands count (expression e.now)) ≡ true → is_flat end.ty ≡ true }
+    requires means { IsNodeOf names.now end.node (down Along.Operands count (expression e.now)) }
+    ensures ty { IfOk result (λ t. IsTypeOf names.now t.ty (expression e.now)) }
+    ensures flat { IfOk result (λ t. is_place (expression e.now) ≡ true → is_flat t.ty ≡ true) }
+    ensures means { IfOk result (λ t. IsNodeOf names.now t.node (expression e.now)) }
+{
+    let mut typed = end;
+    let mut left = count;
+    while 0 < left {
+        left -= 1;
+        let node = descend(Along::Operands, e, left);
+        typed = above(alloc, node, typed, names)?;
+    }
+    Ok(typed)
+}
+
+/// What an expression does, and its type where it has one.
+#[cycle(resolving)]
+pub fn resolve<'a>(alloc: Global, e: &'a Expr, names: &'a Names) -> Result<Typed<'a>, OutOfMemory>
+    ensures ty { IfOk result (λ t. IsTypeOf names.now t.ty (expression e.now)) }
+    ensures flat { IfOk result (λ t. is_place (expression e.now) ≡ true → is_flat t.ty ≡ true) }
+    ensures means { IfOk result (λ t. IsNodeOf names.now t.node (expression e.now)) }
+{
+    let Some(_first) = operand(Along::Operands, e) else {
+        return leaf(alloc, e, names);
+    };
+    let lowest = follow(Along::Operands, e);
+    if lowest.count < LIMIT {
+        let end = leaf(alloc, lowest.end, names)?;
+        rise(alloc, e, lowest.count, end, names)
+    } else {
+        let end = resolve(alloc, lowest.end, names)?;
+        rise(alloc, e, lowest.count, end, names)
+    }
+}

@@ -1,0 +1,134 @@
+//! Functions.
+
+ghost use Rattle.std.specs.Prelude.{◌≡◌, ◌++◌, bytes_eq, map, IfOk, OnOk};
+ghost use Rattle.c_tree.specs.Declarators.{parameter_shape};
+ghost use Rattle.c_tree.specs.View.{function, parameter, statements};
+ghost use Rattle.c_layout.specs.Frames.{frame_of};
+ghost use Rattle.c_layout.specs.Outcome.{planned_of};
+ghost use Rattle.c_resolve.specs.Acted.{IsKept, AreNames, IsRoutineOf, parameters_at};
+ghost use Rattle.c_semantics.specs.Meaning.{main_name, parameter_locals, with_parameter, with_parameters};
+
+use crate::kinds::{held, size};
+use crate::named::Named;
+use crate::names::Names;
+use crate::places::past;
+use crate::routine::{Parameter, Routine};
+use crate::statement::resolve_body;
+use c_layout::Frame;
+use c_semantics::{Home, Local};
+use c_tree::{Fun, Name, OutOfMemory, Param, Stmt};
+use c_types::{parameter_type, pointed};
+use std::alloc::Global;
+
+/// The name of the function that a program starts with.
+pub(super) const MAIN: &[u8] = b"main";
+
+/// Whether a name is `main`.
+pub(super) fn is_main(name: &Name) -> bool
+    ensures { result ≡ bytes_eq name.now main_name }
+{
+    name.get() == MAIN
+}
+
+/// Declares a parameter, where it has a name.
+fn declare_parameter(
+    alloc: Global,
+    p: &Param,
+    places: &[u32],
+    names: &mut Names,
+) -> Result<(), OutOfMemory>
+    ensures names { OnOk result (AreNames names.old names.new (with_parameter places.now (parameter_shape (parameter p.now)) p.now.name)) }
+    ensures kept { OnOk result (IsKept names.old names.new) }
+{
+    let Some(place) = places.first() else {
+        return Ok(());
+    };
+    match &p.name {
+        None => Ok(()),
+        Some(name) => {
+            let ty = parameter_type(alloc, p)?;
+            names.declare(name, Named::Variable(ty, Home::InFrame(*place)))
+        }
+    }
+}
+
+/// Declares parameters.
+fn declare_parameters(
+    alloc: Global,
+    params: &[Param],
+    places: &[u32],
+    names: &mut Names,
+) -> Result<(), OutOfMemory>
+    ensures names { OnOk result (AreNames names.old names.new (with_parameters places.now (map parameter params.now))) }
+    ensures kept { OnOk result (IsKept names.old names.new) }
+{
+    let mut rest = places;
+    for p in params {
+        declare_parameter(alloc, p, rest, names)?;
+        rest = past(rest, 1);
+    }
+    Ok(())
+}
+
+/// What arguments are written into, and the parameters' objects.
+fn push_parameters(
+    alloc: Global,
+    params: &[Param],
+    places: &[u32],
+    out: &mut Vec<Parameter>,
+    locals: &mut Vec<Local>,
+) -> Result<(), OutOfMemory>
+    ensures parameters { OnOk result (out.new.items ≡ out.old.items ++ parameters_at places.now (map parameter params.now)) }
+    ensures locals { OnOk result (locals.new.items ≡ locals.old.items ++ parameter_locals places.now (map parameter params.now)) }
+{
+    let mut rest = places;
+    for p in params {
+        let Some(place) = rest.first() else {
+            return Ok(());
+        };
+        let ty = parameter_type(alloc, p)?;
+        out.push(Parameter {
+            offset: *place,
+            held: held(&ty),
+            place: p.place,
+        })?;
+        locals.push(Local {
+            offset: *place,
+            size: size(&ty)?,
+        })?;
+        rest = past(rest, 1);
+    }
+    Ok(())
+}
+
+/// A function that the text defines, in its frame. The names are those of the text.
+pub(super) fn resolve_function(
+    alloc: Global,
+    f: &Fun,
+    body: &[Stmt],
+    frame: &Frame,
+    names: &mut Names,
+) -> Result<Routine, OutOfMemory>
+    requires { planned_of frame.now ≡ frame_of (map parameter f.now.params.items) (statements body.now) }
+    ensures same { OnOk result (names.new.entries.items ≡ names.old.entries.items) }
+    ensures means { IfOk result (λ routine. IsRoutineOf names.old routine (function f.now) (statements body.now)) }
+{
+    let places = frame.places.as_slice();
+    let mut parameters = Vec::new(alloc);
+    let mut locals = Vec::new(alloc);
+    push_parameters(alloc, &f.params, places, &mut parameters, &mut locals)?;
+    let outer = names.len();
+    declare_parameters(alloc, &f.params, places, names)?;
+    let gives = pointed(alloc, &f.base, f.stars)?;
+    let own = past(places, f.params.len());
+    let block = resolve_body(alloc, body, own, &gives, names)?;
+    names.leave(outer);
+    locals.extend_from_slice(&block.locals)?;
+    Ok(Routine {
+        frame: frame.size,
+        parameters,
+        locals,
+        body: block.actions,
+        is_main: is_main(&f.name),
+    })
+}

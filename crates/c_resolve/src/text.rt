@@ -1,0 +1,203 @@
+//! Whole texts.
+
+ghost use Rattle.std.specs.Prelude.{◌≡◌, ◌+◌, ◌++◌, [], ◌∷◌, ℕ, List, drop, length, map, IfOk, OnOk};
+ghost use Rattle.c_tree.specs.Syntax.{Part};
+ghost use Rattle.c_tree.specs.View.{declarator, function, part, parts, statements};
+ghost use Rattle.c_layout.specs.Frames.{Planned};
+ghost use Rattle.c_layout.specs.Laid.{plan};
+ghost use Rattle.c_layout.specs.Outcome.{plan_of};
+ghost use Rattle.c_resolve.specs.Acted.{AreNames};
+ghost use Rattle.c_resolve.specs.Actions.{routine_run};
+ghost use Rattle.c_resolve.specs.Entries.{numbered};
+ghost use Rattle.c_semantics.specs.Eval.{Calls};
+ghost use Rattle.c_semantics.specs.Meaning.{definition, main_name, names as known_names, names_of, with_function, with_globals};
+ghost use Rattle.c_semantics.specs.Names.{Definition};
+ghost use Rattle.c_resolve.specs.Resolved.{names_in};
+ghost use Rattle.c_resolve.specs.Routines.{definitions_of, definition_frame, definition_run, AreNumbersOf, AreRoutinesOf};
+
+use crate::declaration::declared_type;
+use crate::function::{MAIN, resolve_function};
+use crate::named::Named;
+use crate::names::Names;
+use crate::numbers::{Numbers, number_all};
+use crate::places::past;
+use crate::routine::Routine;
+use c_layout::Layout;
+use c_semantics::Home;
+use c_tree::{Fun, Item, OutOfMemory, Stmt, Tree, Var};
+use c_types::{parameter_types, pointed};
+use std::alloc::Global;
+
+/// The addresses of the globals, in order of declaration.
+pub fn global_addresses(alloc: Global, layout: &Layout) -> Result<Vec<u32>, OutOfMemory>
+    ensures { IfOk result (λ addresses. addresses.items ≡ (plan_of layout.now).globals) }
+{
+    let mut out = Vec::new(alloc);
+    for item in 0..layout.global_count() {
+        let Ok(number) = u32::try_from(item) else {
+            return Err(OutOfMemory);
+        };
+        out.push(layout.global(number))?;
+    }
+    Ok(out)
+}
+
+/// Declares a global.
+fn declare_global(
+    alloc: Global,
+    v: &Var,
+    places: &[u32],
+    names: &mut Names,
+) -> Result<(), OutOfMemory>
+    ensures { OnOk result (AreNames names.old names.new (with_globals places.now (declarator v.now ∷ []))) }
+{
+    match places.first() {
+        None => Ok(()),
+        Some(place) => {
+            let ty = declared_type(alloc, v)?;
+            names.declare(&v.name, Named::Variable(ty, Home::Fixed(*place)))
+        }
+    }
+}
+
+/// Declares globals.
+fn declare_globals(
+    alloc: Global,
+    vars: &[Var],
+    places: &[u32],
+    names: &mut Names,
+) -> Result<(), OutOfMemory>
+    ensures { OnOk result (AreNames names.old names.new (with_globals places.now (map declarator vars.now))) }
+{
+    let mut rest = places;
+    for v in vars {
+        declare_global(alloc, v, rest, names)?;
+        rest = past(rest, 1);
+    }
+    Ok(())
+}
+
+/// Declares a function, with the number of its definition.
+fn declare_function(
+    alloc: Global,
+    f: &Fun,
+    numbers: &Numbers,
+    names: &mut Names,
+) -> Result<(), OutOfMemory>
+    ensures { OnOk result ((text : List Part) → AreNumbersOf numbers.now (definitions_of text) →
+        names_in (definitions_of text) names.new ≡ with_function text (function f.now) (names_in (definitions_of text) names.old)) }
+{
+    let gives = pointed(alloc, &f.base, f.stars)?;
+    let types = parameter_types(alloc, &f.params)?;
+    let number = numbers.find(f.name.get());
+    names.declare(&f.name, Named::Routine(gives, types, number))
+}
+
+/// Declares what an item does, and gives the addresses behind its globals.
+fn declare_item<'a>(
+    alloc: Global,
+    item: &Item,
+    places: &'a [u32],
+    numbers: &Numbers,
+    names: &mut Names,
+) -> Result<&'a [u32], OutOfMemory>
+    ensures { IfOk result (λ rest. (text ps : List Part) → AreNumbersOf numbers.now (definitions_of text) →
+        names_of text rest.now ps (names_in (definitions_of text) names.new) ≡ names_of text places.now (part item.now ∷ ps) (names_in (definitions_of text) names.old)) }
+{
+    match item {
+        Item::Vars(_, vars) => {
+            declare_globals(alloc, vars, places, names)?;
+            Ok(past(places, vars.len()))
+        }
+        Item::Fun(f) => {
+            declare_function(alloc, f, numbers, names)?;
+            Ok(places)
+        }
+    }
+}
+
+/// The names of a text, in a layout of it.
+fn text_names(alloc: Global, tree: &Tree, layout: &Layout) -> Result<Names, OutOfMemory>
+    requires { plan_of layout.now ≡ plan (parts tree.now) }
+    ensures { IfOk result (λ known. (input : List ℕ) → names_in (definitions_of (parts tree.now)) known ≡ known_names (parts tree.now) input) }
+{
+    let numbers = number_all(alloc, &tree.items)?;
+    let places = global_addresses(alloc, layout)?;
+    let mut names = Names::new(alloc);
+    let mut rest = places.as_slice();
+    for item in &tree.items {
+        rest = declare_item(alloc, item, rest, &numbers, &mut names)?;
+    }
+    Ok(names)
+}
+
+/// The routine of a definition, which comes next in the order of the text. The names are those of the text.
+fn push_definition(
+    alloc: Global,
+    f: &Fun,
+    body: &[Stmt],
+    layout: &Layout,
+    names: &mut Names,
+    out: &mut Vec<Routine>,
+) -> Result<(), OutOfMemory>
+    requires { (rest : List Planned) × (drop (length out.old.items) (plan_of layout.now).frames ≡ definition_frame (record { function = function f.now; body = statements body.now }) ∷ rest) }
+    ensures same { OnOk result (names.new.entries.items ≡ names.old.entries.items) }
+    ensures count { OnOk result (length out.new.items ≡ length out.old.items + 1) }
+    ensures means { OnOk result ((definitions : List Definition) → (text : List Part) → (input : List ℕ) → (calls : Calls) → names_in definitions names.old ≡ known_names text input →
+        map (routine_run definitions input calls) out.new.items ≡ map (routine_run definitions input calls) out.old.items ++ definition_run text input calls (record { function = function f.now; body = statements body.now }) ∷ []) }
+{
+    let Ok(number) = u32::try_from(out.len()) else {
+        return Err(OutOfMemory);
+    };
+    let frame = layout.frame(number);
+    out.push(resolve_function(alloc, f, body, frame, names)?)?;
+    Ok(())
+}
+
+/// The routines of the definitions of an item, which come next in the order of the text.
+fn push_item(
+    alloc: Global,
+    item: &Item,
+    layout: &Layout,
+    names: &mut Names,
+    out: &mut Vec<Routine>,
+) -> Result<(), OutOfMemory>
+    requires { (rest : List Planned) × (drop (length out.old.items) (plan_of layout.now).frames ≡ map definition_frame (definitions_of (part item.now ∷ [])) ++ rest) }
+    ensures same { OnOk result (names.new.entries.items ≡ names.old.entries.items) }
+    ensures count { OnOk result (length out.new.items ≡ length out.old.items + length (definitions_of (part item.now ∷ []))) }
+    ensures means { OnOk result ((definitions : List Definition) → (text : List Part) → (input : List ℕ) → (calls : Calls) → names_in definitions names.old ≡ known_names text input →
+        map (routine_run definitions input calls) out.new.items ≡ map (routine_run definitions input calls) out.old.items ++ map (definition_run text input calls) (definitions_of (part item.now ∷ []))) }
+{
+    match item {
+        Item::Vars(_, _) => Ok(()),
+        Item::Fun(f) => match &f.body {
+            None => Ok(()),
+            Some(body) => push_definition(alloc, f, body, layout, names, out),
+        },
+    }
+}
+
+/// The routines of the functions that a text defines, in its order.
+pub fn resolve_text(
+    alloc: Global,
+    tree: &Tree,
+    layout: &Layout,
+) -> Result<Vec<Routine>, OutOfMemory>
+    requires { plan_of layout.now ≡ plan (parts tree.now) }
+    ensures { IfOk result (λ routines. AreRoutinesOf (parts tree.now) routines.items) }
+{
+    let mut names = text_names(alloc, tree, layout)?;
+    let mut out = Vec::new(alloc);
+    for item in &tree.items {
+        push_item(alloc, item, layout, &mut names, &mut out)?;
+    }
+    Ok(out)
+}
+
+/// The number of `main`.
+pub fn main_number(alloc: Global, tree: &Tree) -> Result<Option<u32>, OutOfMemory>
+    ensures { IfOk result (λ number. numbered (definitions_of (parts tree.now)) number ≡ definition (parts tree.now) main_name) }
+{
+    let numbers = number_all(alloc, &tree.items)?;
+    Ok(numbers.find(MAIN))
+}

@@ -1,0 +1,12 @@
+pub mod Contents
+pub mod Eval
+pub mod Evaluated
+pub mod Exec
+pub mod Live
+pub mod Meaning
+pub mod Memory
+pub mod Names
+pub mod Outcome
+pub mod Pointers
+pub mod Run
+pub mod Wider

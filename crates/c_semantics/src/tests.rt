@@ -1,0 +1,4 @@
+//! The memory by tables.
+
+mod live;
+mod memory;
