@@ -12,8 +12,6 @@ mod marker;
 mod region;
 mod sizes;
 mod statement;
-#[cfg(test)]
-mod tests;
 mod text;
 
 pub use fault::{CheckFault, CheckKind};

@@ -11,8 +11,6 @@ mod opening;
 mod parameter;
 mod rest;
 mod statement;
-#[cfg(test)]
-mod tests;
 mod unit;
 
 pub use law::{one_answer_of_a_text, one_tree_of_a_text};

@@ -19,6 +19,3 @@ pub use opening::begins;
 pub use reader::{expect, place_of, take};
 pub use spelled::{is_sign, is_word};
 pub use unique::{one_answer, one_tree};
-
-#[cfg(test)]
-mod tests;

@@ -99,7 +99,7 @@ fn frames(alloc: Global, items: &[Item]) -> Result<Vec<Frame>, LayoutFault>
 }
 
 /// The layout of a tree, accepted or not.
-pub(crate) fn layout_of(alloc: Global, tree: &Tree) -> Result<Layout, LayoutFault>
+pub fn layout_of(alloc: Global, tree: &Tree) -> Result<Layout, LayoutFault>
     ensures { MatchResult result
         (λ layout. (plan_of layout ≡ plan (parts tree.now)) × (is_data_too_large (parts tree.now) ≡ false) × (first_too_large (frames (parts tree.now)) ≡ None))
         (IsFault (parts tree.now)) }

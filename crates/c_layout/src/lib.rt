@@ -10,10 +10,8 @@ mod limits;
 mod next;
 mod sizes;
 mod slots;
-#[cfg(test)]
-mod tests;
 
 pub use fault::LayoutFault;
 pub use frame::Frame;
 pub use law::erased_text_has_the_same_layout;
-pub use layout::{Layout, lay_out};
+pub use layout::{Layout, lay_out, layout_of};

@@ -18,8 +18,6 @@ mod pending;
 mod planning;
 mod starting;
 mod tasks;
-#[cfg(test)]
-mod tests;
 mod turning;
 
 pub use meaning::evaluate;

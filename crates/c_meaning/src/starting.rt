@@ -66,7 +66,7 @@ fn fill(bytes: &mut Vec<u8>, count: u64) -> Result<(), OutOfMemory>
 }
 
 /// The bytes that a global holds first.
-pub(crate) fn first_bytes(alloc: Global, v: &Var) -> Result<Vec<u8>, OutOfMemory>
+fn first_bytes(alloc: Global, v: &Var) -> Result<Vec<u8>, OutOfMemory>
     ensures { IfOk result (λ bytes. bytes.items ≡ first_bytes (declarator v.now)) }
 {
     let mut bytes = Vec::new(alloc);
@@ -116,7 +116,7 @@ fn start_globals<'a>(
 }
 
 /// Starts the globals of an item, and gives the addresses behind them.
-pub(crate) fn start_item<'a>(
+fn start_item<'a>(
     alloc: Global,
     item: &Item,
     addresses: &'a [u32],

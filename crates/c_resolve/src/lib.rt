@@ -15,8 +15,6 @@ mod part;
 mod places;
 mod routine;
 mod statement;
-#[cfg(test)]
-mod tests;
 mod text;
 mod typed;
 

@@ -10,8 +10,6 @@ mod live;
 mod local;
 mod memory;
 mod object;
-#[cfg(test)]
-mod tests;
 
 pub use flow::Flow;
 pub use home::Home;

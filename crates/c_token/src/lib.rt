@@ -49,6 +49,3 @@ pub fn one_answer()
     ensures faults { (text : List ℕ) (r q : TokenFault) → IsFaultOf text r → IsFaultOf text q → r ≡ q }
     ensures apart { (text : List ℕ) (a : List Token) (r : TokenFault) → AreTokensOf text a → IsFaultOf text r → ⊥ }
 {}
-
-#[cfg(test)]
-mod tests;

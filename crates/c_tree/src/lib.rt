@@ -12,8 +12,6 @@ mod name;
 mod operator;
 mod place;
 mod spine;
-#[cfg(test)]
-mod tests;
 mod tree;
 mod undefined;
 

@@ -14,8 +14,6 @@ mod least;
 mod rules;
 mod seen;
 mod spine;
-#[cfg(test)]
-mod tests;
 mod types;
 mod typing;
 mod words;

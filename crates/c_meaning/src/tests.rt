@@ -1,3 +1,0 @@
-//! The memory that a program starts with, by tables.
-
-mod starting;

@@ -1,4 +1,0 @@
-//! The memory by tables.
-
-mod live;
-mod memory;
