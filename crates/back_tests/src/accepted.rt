@@ -2,8 +2,8 @@
 
 ghost use Rattle.std.specs.Prelude.{◌≡◌, IfOk};
 ghost use Rattle.c_layout.specs.Laid.{plan};
-ghost use Rattle.c_layout.specs.Outcome.{plan_of};
-ghost use Rattle.c_tree.specs.View.{parts};
+ghost use Rattle.c_layout.specs.LayoutAnswers.{plan_of};
+ghost use Rattle.c_tree.specs.View.{items_of};
 
 use c_layout::Layout;
 use c_tree::Checked;
@@ -13,14 +13,14 @@ use std::test::Fail;
 
 /// The tree of a text that is accepted, and its layout.
 pub(super) fn accepted(alloc: Global, text: &str) -> Result<(Checked, Layout), Fail>
-    ensures { IfOk result (λ x. plan_of x.1 ≡ plan (parts x.0.tree)) }
+    ensures { IfOk result (λ x. plan_of x.1 ≡ plan (items_of x.0.tree)) }
 {
     let bytes = text.as_bytes();
     if bytes.len() > 1_048_576 {
         return Err(Fail::from("a text that is too long"));
     }
     match front(alloc, bytes) {
-        Ok(parts) => Ok(parts),
+        Ok(items_of) => Ok(items_of),
         Err(refused) => Err(Fail::from(refused)),
     }
 }

@@ -46,10 +46,10 @@ fn target_text(alloc: Global, target: Target) -> Result<String, Fail> {
 fn node_text(alloc: Global, node: &Node) -> Result<String, Fail> {
     Ok(match &node.kind {
         NodeKind::Constant(value) => format!(in alloc; "{value}")?,
-        NodeKind::Variable(home, held) => {
+        NodeKind::Name(home, held) => {
             format!(in alloc; "{}{}", held_text(*held), home_text(alloc, *home)?)?
         }
-        NodeKind::Prefix(op, kind, held, a) => {
+        NodeKind::Unary(op, kind, held, a) => {
             let kind = operand_text(alloc, *kind)?;
             format!(in alloc;
                 "{op:?} {}({}:{kind})",
@@ -65,17 +65,17 @@ fn node_text(alloc: Global, node: &Node) -> Result<String, Fail> {
                 node_text(alloc, a)?
             )?
         }
-        NodeKind::Convert(held, a) => {
+        NodeKind::Cast(held, a) => {
             format!(in alloc; "Convert {}({})", held_text(*held), node_text(alloc, a)?)?
         }
-        NodeKind::Infix(op, c, d, a, b) => {
+        NodeKind::Binary(op, c, d, a, b) => {
             let c = operand_text(alloc, *c)?;
             let d = operand_text(alloc, *d)?;
             let a = node_text(alloc, a)?;
             let b = node_text(alloc, b)?;
             format!(in alloc; "{op:?}({a}:{c} {b}:{d})")?
         }
-        NodeKind::Choice(c, a, b) => {
+        NodeKind::Conditional(c, a, b) => {
             let c = node_text(alloc, c)?;
             let a = node_text(alloc, a)?;
             let b = node_text(alloc, b)?;
@@ -93,7 +93,7 @@ fn node_text(alloc: Global, node: &Node) -> Result<String, Fail> {
             let b = node_text(alloc, b)?;
             format!(in alloc; "Assign{op} {held}({a}:{c} {b}:{d})")?
         }
-        NodeKind::Element(c, d, held, a, b) => {
+        NodeKind::Index(c, d, held, a, b) => {
             let held = held_text(*held);
             let c = operand_text(alloc, *c)?;
             let d = operand_text(alloc, *d)?;
@@ -151,16 +151,16 @@ fn passed_text(alloc: Global, all: &[Passed]) -> Result<String, Fail> {
 fn beginning_text(alloc: Global, beginning: &Beginning) -> Result<String, Fail> {
     match beginning {
         Beginning::Nothing => Ok(String::new(alloc)),
-        Beginning::Declare(all) => passed_text(alloc, all),
-        Beginning::Evaluate(node) => node_text(alloc, node),
+        Beginning::Vars(all) => passed_text(alloc, all),
+        Beginning::Expr(node) => node_text(alloc, node),
     }
 }
 
 fn action_text(alloc: Global, action: &Action) -> Result<String, Fail> {
     Ok(match action {
-        Action::Nothing => format!(in alloc; ";")?,
-        Action::Evaluate(node) => format!(in alloc; "{};", node_text(alloc, node)?)?,
-        Action::Declare(counted, all) => {
+        Action::Empty => format!(in alloc; ";")?,
+        Action::Expr(node) => format!(in alloc; "{};", node_text(alloc, node)?)?,
+        Action::Vars(counted, all) => {
             let word = if *counted { "count" } else { "let" };
             format!(in alloc; "{word}{};", passed_text(alloc, all)?)?
         }
@@ -173,11 +173,11 @@ fn action_text(alloc: Global, action: &Action) -> Result<String, Fail> {
             all.push_str("}")?;
             all
         }
-        Action::Branch(test, body) => {
+        Action::If(test, body) => {
             let test = node_text(alloc, test)?;
             format!(in alloc; "if {test} {}", action_text(alloc, body)?)?
         }
-        Action::Fork(test, body, other) => {
+        Action::IfElse(test, body, other) => {
             let test = node_text(alloc, test)?;
             let body = action_text(alloc, body)?;
             format!(in alloc; "if {test} {body} else {}", action_text(alloc, other)?)?
@@ -186,7 +186,7 @@ fn action_text(alloc: Global, action: &Action) -> Result<String, Fail> {
             let test = node_text(alloc, test)?;
             format!(in alloc; "while {test} {}", action_text(alloc, body)?)?
         }
-        Action::DoWhile(body, test) => {
+        Action::Do(body, test) => {
             let body = action_text(alloc, body)?;
             format!(in alloc; "do {body} while {};", node_text(alloc, test)?)?
         }

@@ -62,7 +62,8 @@ impl Shelf for MemShelf {
         ensures bytes { IfOk result
             (λ bytes. IsFront (mem_shelf_file self.old name.now) most bytes.items) }
         ensures files { mem_shelf_file self.new ≡ mem_shelf_file self.old }
-        ensures cause { HasLoadCause (mem_shelf_faults self.old) (mem_shelf_faults self.new) result }
+        ensures cause { HasLoadCause (mem_shelf_faults self.old)
+            (mem_shelf_faults self.new) result }
 
         // It fails where that is planned or no file has the name, and nowhere else.
         ensures planned { IsTrue (next_fails self.old) → result ≡ Err LoadFault.Failed }

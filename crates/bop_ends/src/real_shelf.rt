@@ -55,7 +55,8 @@ impl<F: Files> Shelf for RealShelf<'_, F> {
 
     fn load(&mut self, alloc: Global, name: &str, most: usize) -> Result<Vec<u8>, LoadFault>
         // What holds of every shelf that tells nothing.
-        ensures cause { HasLoadCause (real_shelf_faults self.old) (real_shelf_faults self.new) result }
+        ensures cause { HasLoadCause (real_shelf_faults self.old)
+            (real_shelf_faults self.new) result }
 
         // A failure is counted once.
         ensures counted { IsErrOf result LoadFault.Failed

@@ -42,7 +42,8 @@ impl<R: Read> Source for RealSource<R> {
         ensures bound { ReadsAtMost result into.new }
         ensures bytes { ReadConsumes (R.remaining (real_source_reader self.old))
             (R.remaining (real_source_reader self.new)) result into.new }
-        ensures cause { HasCause (real_source_faults self.old) (real_source_faults self.new) result }
+        ensures cause { HasCause (real_source_faults self.old)
+            (real_source_faults self.new) result }
 
         // A failure is counted once.
         ensures counted { OnErr result

@@ -6,43 +6,48 @@ use Rattle.std.proofs.lemmas.Int.{ints}
 use Rattle.rv_code.specs.declared.program.Program.{Program}
 use Rattle.rv_code.specs.declared.stop.Stop.TheVariants.{Exit}
 use Rattle.rv_code.specs.State.{stop_of, output_of}
-use Rattle.rv_code.specs.Run.{seq}
-use Rattle.rv_code.proofs.Runs.{seq-stays}
+use Rattle.rv_code.specs.SequentialRun.{seq}
+use Rattle.rv_code.proofs.SequentialRunLemmas.{seq-stays}
 use Rattle.low_link.specs.Form.{IsForm}
 use Rattle.low_link.specs.Code.{IsProgramOf}
-use Rattle.low_link.specs.Laws.{Performs}
+use Rattle.low_link.specs.FormLaws.{Performs}
 use Rattle.low_link.proofs.Simulation.{performs}
 use Rattle.bop_top.specs.declared.machine.Machine.{Machine}
 use Rattle.bop_top.specs.declared.top.TheConstants.{BUDGET, TEXT_BYTES}
 use Rattle.bop_top.specs.Headline.{Ran, Exited, OfText}
-use Rattle.bop_top.specs.Machine.{state_of, machine_of}
+use Rattle.bop_top.specs.private.RunningMachine.{state_of, machine_of}
 use Rattle.bop_top.proofs.Running.{stop_of-stopped_by}
 use mir.Val.{to_z, of_z}
 
-performs-text : (text : List ℕ) (program : Program) (p : IsProgramOf text program) → Performs program [] p.characters p.exit
+performs-text : (text : List ℕ) (program : Program) (p : IsProgramOf text program)
+    → Performs program [] p.characters p.exit
 performs-text text program p =
     let constant = p.form.returns.constant in
     subst (λ (q : Program). Performs q [] p.characters p.exit) (sym p.same) (performs p.characters [] p.exit _ constant.value constant.fits p.form.plain p.form.few)
 
 -- a run of the form has ended long before its budget
-at-end : (program : Program) (characters : List ℕ) (exit : ℤ) (p : Performs program [] characters exit) → length characters ≤ 1000
+at-end : (program : Program) (characters : List ℕ) (exit : ℤ)
+    (p : Performs program [] characters exit) → length characters ≤ 1000
     → seq program [] BUDGET ≡ seq program [] p.steps
 at-end program characters exit p few =
     let low : p.steps ≤ BUDGET = omega (arith, p.few) in
     seq-stays program [] p.steps BUDGET low (subst (λ how. IsSome how) (sym p.stops) refl)
 
-pub stops : (text : List ℕ) (program : Program) (p : IsProgramOf text program) → stop_of (seq program [] BUDGET) ≡ Some (Exit p.exit)
+pub stops : (text : List ℕ) (program : Program) (p : IsProgramOf text program)
+    → stop_of (seq program [] BUDGET) ≡ Some (Exit p.exit)
 stops text program p =
     let q = performs-text text program p in
     ap stop_of (at-end program p.characters p.exit q p.form.few) ∙ q.stops
 
-puts : (text : List ℕ) (program : Program) (p : IsProgramOf text program) → output_of (seq program [] BUDGET) ≡ p.characters
+puts : (text : List ℕ) (program : Program) (p : IsProgramOf text program)
+    → output_of (seq program [] BUDGET) ≡ p.characters
 puts text program p =
     let q = performs-text text program p in
     ap output_of (at-end program p.characters p.exit q p.form.few) ∙ q.puts
 
 -- the machine of such a run has exited with the text's value
-pub exited : (text : List ℕ) (program : Program) (p : IsProgramOf text program) (m : Machine) (memory output : List ℕ)
+pub exited : (text : List ℕ) (program : Program) (p : IsProgramOf text program) (m : Machine)
+    (memory output : List ℕ)
     → machine_of m memory output ≡ seq program [] BUDGET → m.stop ≡ Some (Exit p.exit)
 exited text program p m memory output here = sym (stop_of-stopped_by m.stop (state_of m memory output)) ∙ ap stop_of here ∙ stops text program p
 

@@ -5,7 +5,7 @@ use Rattle.bop_ends.specs.Ends.{IsFront}
 use Rattle.low_link.specs.declared.refused.Refused.{Refused}
 use Rattle.low_link.specs.declared.refused.Refused.TheVariants as r
 use Rattle.c_tree.specs.declared.checked.Checked.{Checked}
-use Rattle.c_tree.specs.View.{parts}
+use Rattle.c_tree.specs.View.{items_of}
 use Rattle.c_tree.proofs.Acceptance.{faultless}
 use Rattle.c_layout.specs.declared.layout.Layout.{Layout}
 use Rattle.low_link.specs.Front as front_of
@@ -43,7 +43,8 @@ module _ (told : Type 0) (file : Option (List ℕ)) where
   unloaded_check status.ProgramTooLong h here = h here
   unloaded_check _ h here = absurd h
 
-  pub unloaded_mean : (steps : ℕ) (s : Status) → IsUnloaded s told file → told → MeanSays steps s file [] []
+  pub unloaded_mean : (steps : ℕ) (s : Status) → IsUnloaded s told file → told
+      → MeanSays steps s file [] []
   unloaded_mean steps status.LoadFault h here = tt
   unloaded_mean steps status.OutOfMemory h here = tt
   unloaded_mean steps status.ProgramTooLong h here = h here
@@ -63,7 +64,8 @@ module _ (told : Type 0) (file : Option (List ℕ)) where
   check_stands _ h = absurd h
 
   -- nor anything taken
-  pub mean_stands : (left : Option (List ℕ)) (s : Status) → IsUnloaded s told file → MeanTransfers s [] left []
+  pub mean_stands : (left : Option (List ℕ)) (s : Status) → IsUnloaded s told file
+      → MeanTransfers s [] left []
   mean_stands left status.LoadFault h = (refl, refl)
   mean_stands left status.OutOfMemory h = refl
   mean_stands left status.ProgramTooLong h = (refl, refl)
@@ -94,11 +96,13 @@ refused_stands text (r.Layout fault) h = (tt, refl)
 refused_stands text r.NotYetBuilt h = absurd h
 refused_stands text r.OutOfMemory h = refl
 
-pub accepted_of : (text : List ℕ) (checked : Checked) (laid : Layout) → front_of.IsFront text checked laid → IsAccepted text (parts checked.tree)
+pub accepted_of : (text : List ℕ) (checked : Checked) (laid : Layout)
+    → front_of.IsFront text checked laid → IsAccepted text (items_of checked.tree)
 accepted_of text checked laid h = record { spells = h.spells; faultless = faultless checked.tree checked.accepted }
 
-pub fine_of : (text : List ℕ) (checked : Checked) (laid : Layout) → front_of.IsFront text checked laid → IsFine text
-fine_of text checked laid h = (parts checked.tree, accepted_of text checked laid h, h.fits)
+pub fine_of : (text : List ℕ) (checked : Checked) (laid : Layout)
+    → front_of.IsFront text checked laid → IsFine text
+fine_of text checked laid h = (items_of checked.tree, accepted_of text checked laid h, h.fits)
 
 pub fine_says : (text : List ℕ) (checked : Checked) (laid : Layout) → length text ≤ TEXT_BYTES
     → front_of.IsFront text checked laid → CheckSays status.Fine (Some text)

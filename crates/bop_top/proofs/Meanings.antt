@@ -48,7 +48,8 @@ unmeant_transfers status.OutOfMemory text taken left h = refl
 unmeant_transfers _ text taken left h = absurd h
 
 -- and no bytes are told
-pub unmeant_untold : (s : Status) (text taken : List ℕ) → IsUnmeant s text taken → None ≡ count_told s 0
+pub unmeant_untold : (s : Status) (text taken : List ℕ) → IsUnmeant s text taken
+    → None ≡ count_told s 0
 unmeant_untold (status.Rejected refused) text taken h = refl
 unmeant_untold status.InputTooLong text taken h = refl
 unmeant_untold status.ReadFault text taken h = refl
@@ -56,7 +57,8 @@ unmeant_untold status.OutOfMemory text taken h = refl
 unmeant_untold _ text taken h = absurd h
 
 -- the text was accepted, and then the input was not read to its end
-pub unread_unmeant : (s : Status) (text taken : List ℕ) → IsFine text → IsUnread s taken → IsUnmeant s text taken
+pub unread_unmeant : (s : Status) (text taken : List ℕ) → IsFine text → IsUnread s taken
+    → IsUnmeant s text taken
 unread_unmeant status.ReadFault text taken fine h = fine
 unread_unmeant status.OutOfMemory text taken fine h = tt
 unread_unmeant status.InputTooLong text taken fine h = (fine, h)

@@ -1,6 +1,6 @@
 -- Words ask for one thing at most.
 use Rattle.std.proofs.Common.{◌≡◌, ℕ, List, [], ◌∷◌, drop, get_or, sym, ◌∙◌, ap, ap₂, subst, arith}
-use Rattle.bop_top.specs.Words.{Request, Seq, Check, Mean, IsRequest, HasBudget, AsksMean, AsksNothing}
+use Rattle.bop_top.specs.CommandWords.{Request, Seq, Check, Mean, IsRequest, HasBudget, AsksMean, AsksNothing}
 
 -- the first letter of the first word
 abbrev initial : List (List ℕ) → ℕ
@@ -12,7 +12,8 @@ one_budget (option ∷ []) a b h k = absurd h
 one_budget (option ∷ digits ∷ []) a b h k = h.1.value ∙ sym k.1.value
 one_budget (option ∷ digits ∷ x ∷ rest) a b h k = absurd h
 
-pub one_request : (words : List (List ℕ)) (a b : Request) → IsRequest words a → IsRequest words b → a ≡ b
+pub one_request : (words : List (List ℕ)) (a b : Request) → IsRequest words a → IsRequest words b
+    → a ≡ b
 one_request words (Seq a) (Seq b) h k = ap (λ (l : List (List ℕ)). Seq (get_or l 1 [])) (sym h.0 ∙ k.0)
 one_request words (Check a) (Check b) h k = ap (λ (l : List (List ℕ)). Check (get_or l 1 [])) (sym h.0 ∙ k.0)
 one_request words (Mean a m) (Mean b n) h k =
@@ -27,15 +28,18 @@ one_request words (Check a) (Mean b n) h k = let e : 99 ≡ 109 = ap initial (sy
 one_request words (Mean a m) (Check b) h k = let e : 109 ≡ 99 = ap initial (sym h.1 ∙ k.0) in absurd (omega (arith, e))
 
 -- what holds of what the words ask for holds of each request that they make
-pub of_each : (words : List (List ℕ)) (asked : Request) → IsRequest words asked → (P : Request → Type 0)
+pub of_each : (words : List (List ℕ)) (asked : Request) → IsRequest words asked
+    → (P : Request → Type 0)
     → P asked → (request : Request) → IsRequest words request → P request
 of_each words asked here P p request h = subst P (one_request words asked request here h) p
 
 pub no_meaning : (words : List (List ℕ)) → AsksNothing words → AsksMean words → ⊥
 no_meaning words none (name, steps, asked) = none (Mean name steps) asked
 
-pub seq_asks_no_meaning : (words : List (List ℕ)) (program : List ℕ) → IsRequest words (Seq program) → AsksMean words → ⊥
+pub seq_asks_no_meaning : (words : List (List ℕ)) (program : List ℕ)
+    → IsRequest words (Seq program) → AsksMean words → ⊥
 seq_asks_no_meaning words program h (name, steps, asked) = let e : Seq program ≡ Mean name steps = one_request words (Seq program) (Mean name steps) h asked in cc e
 
-pub check_asks_no_meaning : (words : List (List ℕ)) (program : List ℕ) → IsRequest words (Check program) → AsksMean words → ⊥
+pub check_asks_no_meaning : (words : List (List ℕ)) (program : List ℕ)
+    → IsRequest words (Check program) → AsksMean words → ⊥
 check_asks_no_meaning words program h (name, steps, asked) = let e : Check program ≡ Mean name steps = one_request words (Check program) (Mean name steps) h asked in cc e

@@ -6,8 +6,8 @@ use Rattle.bop_ends.specs.Ends.{Rose}
 use Rattle.rv_code.specs.declared.program.Program.{Program}
 use Rattle.rv_code.specs.declared.stop.Stop.TheVariants.{Exit}
 use Rattle.rv_code.specs.State.{Machine, stop_of, output_of}
-use Rattle.rv_code.specs.Run.{seq}
-use Rattle.c_tree.specs.Syntax.{Part}
+use Rattle.rv_code.specs.SequentialRun.{seq}
+use Rattle.c_tree.specs.Item.{Item}
 use Rattle.c_tree.specs.Erase.{erased_text}
 use Rattle.c_semantics.specs.Meaning.{Meaning, meant}
 use Rattle.c_semantics.specs.Meaning as meaning
@@ -23,7 +23,7 @@ use Rattle.bop_top.specs.declared.status.Status.TheVariants.{Done, Fine, BadWord
 use Rattle.bop_top.specs.declared.input.TheConstants.{INPUT_BYTES}
 use Rattle.bop_top.specs.declared.top.TheConstants.{BUDGET, TEXT_BYTES}
 use Rattle.bop_top.specs.Report.{Reported}
-use Rattle.bop_top.specs.Words.{Request, Seq, Check, Mean, IsRequest, AsksMean, AsksNothing, name_of}
+use Rattle.bop_top.specs.CommandWords.{Request, Seq, Check, Mean, IsRequest, AsksMean, AsksNothing, name_of}
 
 -- there is a file, it is no longer than a text may be, and P holds of it
 abbrev pub OfText : Option (List ℕ) → (List ℕ → Type 0) → Type 0
@@ -51,7 +51,8 @@ IsNotBuilt text = (characters : List ℕ) (exit : ℤ) → IsForm text character
 abbrev pub SeqSays : Status → Option (List ℕ) → List ℕ → Type 0
 SeqSays (Done exit) file written =
     OfText file (λ text. Ran text (λ m. Exited m exit written) × IsForm text written exit)
-SeqSays WriteFault file written = OfText file (λ text. Ran text (λ m. IsPrefix written (output_of m)))
+SeqSays WriteFault file written =
+    OfText file (λ text. Ran text (λ m. IsPrefix written (output_of m)))
 SeqSays NotYetBuilt file written = OfText file IsNotBuilt
 SeqSays ProgramTooLong file written = IsTooLong file
 SeqSays _ file written = ⊤
@@ -69,7 +70,7 @@ SeqTransfers _ written = ⊥
 
 -- the text is one of the language, and its objects fit into the memory
 abbrev pub IsFine : List ℕ → Type 0
-IsFine text = (ps : List Part) × IsAccepted text ps × Fits ps
+IsFine text = (ps : List Item) × IsAccepted text ps × Fits ps
 
 -- what the status of a check says of the program's file; a status without a row says nothing of it
 abbrev pub CheckSays : Status → Option (List ℕ) → Type 0
@@ -90,7 +91,8 @@ CheckTransfers _ written = ⊥
 
 -- P holds of what the text means with this input within so many steps, where each marker is the empty statement
 abbrev pub Means : List ℕ → List ℕ → ℕ → (Meaning → Type 0) → Type 0
-Means text input steps P = (ps : List Part) × IsAccepted text ps × Fits ps × P (meant (erased_text ps) input steps)
+Means text input steps P =
+    (ps : List Item) × IsAccepted text ps × Fits ps × P (meant (erased_text ps) input steps)
 
 -- these bytes are the whole input, and nothing is left of it
 pub record IsInput (taken : List ℕ) (left : Option (List ℕ)) : Type 0 where
@@ -231,7 +233,8 @@ count_told WriteFault count = Some 0
 count_told _ count = None
 
 -- the output of a meaning was handed to a sink
-pub record HasPut (m : Meaning) (status : Status) (bytes : Option ℕ) (old new : Option (List ℕ)) : Type 0 where
+pub record HasPut (m : Meaning) (status : Status) (bytes : Option ℕ)
+    (old new : Option (List ℕ)) : Type 0 where
   pub written : List ℕ
   pub writes : Appends old new written
   pub puts : Puts status written m
@@ -250,7 +253,8 @@ pub record HasMeant (steps : ℕ) (told : Type 0) (file : Option (List ℕ)) (st
 
 -- what a command has done that ends with this status: which bytes it took and wrote, how many it
 -- reports, which end has failed, and what all that says of the file where the shelf tells it
-pub record Ended (words : List (List ℕ)) (old new : Ends) (status : Status) (bytes : Option ℕ) : Type 0 where
+pub record Ended (words : List (List ℕ)) (old new : Ends) (status : Status)
+    (bytes : Option ℕ) : Type 0 where
   pub taken : List ℕ
   pub written : List ℕ
   pub takes : Consumes old.input new.input taken
@@ -270,7 +274,8 @@ pub record Reporting : Type 0 where
   pub faults : ℕ
 
 -- the course of a call: a command ends with the inner status, which is then reported
-pub record Course (words : List (List ℕ)) (old new : Ends) (before after : Reporting) (final : Status) : Type 0 where
+pub record Course (words : List (List ℕ)) (old new : Ends) (before after : Reporting)
+    (final : Status) : Type 0 where
   pub inner : Status
   pub bytes : Option ℕ
   pub command : Ended words old new inner bytes

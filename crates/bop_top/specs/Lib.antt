@@ -1,6 +1,5 @@
 pub mod Codes
+pub mod CommandWords
 pub mod Headline
-pub mod Machine
-pub mod Moved
 pub mod Report
-pub mod Words
+pub mod private

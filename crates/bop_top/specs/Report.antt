@@ -129,17 +129,22 @@ abbrev pub unreported : Status → Status
 unreported inner = if is_answer inner then ReportFault else inner
 
 -- the whole report was appended
-pub record HasReported (inner final : Status) (bytes : Option ℕ) (old new : Option (List ℕ)) (before now : ℕ) : Type 0 where
+pub record HasReported (inner final : Status) (bytes : Option ℕ) (old new : Option (List ℕ))
+    (before now : ℕ) : Type 0 where
   pub same : final ≡ inner
   pub whole : Appends old new (report_of inner bytes)
   pub stands : now ≡ before
 
 -- it failed at some front
-pub record HasFailed (inner final : Status) (bytes : Option ℕ) (old new : Option (List ℕ)) (before now : ℕ) : Type 0 where
+pub record HasFailed (inner final : Status) (bytes : Option ℕ) (old new : Option (List ℕ))
+    (before now : ℕ) : Type 0 where
   pub same : final ≡ unreported inner
   pub front : AppendsPrefix old new (report_of inner bytes)
   pub rose : Rose before now
 
 -- the end of a call whose command has ended with this status, by what the report held and counted
-abbrev pub Reported : Status → Status → Option ℕ → Option (List ℕ) → Option (List ℕ) → ℕ → ℕ → Type 0
-Reported inner final bytes old new before now = HasReported inner final bytes old new before now ⊎ HasFailed inner final bytes old new before now
+abbrev pub Reported : Status → Status → Option ℕ → Option (List ℕ) → Option (List ℕ) → ℕ → ℕ
+    → Type 0
+Reported inner final bytes old new before now =
+    HasReported inner final bytes old new before now ⊎ HasFailed inner final bytes old new before
+    now

@@ -12,8 +12,12 @@ pub const INPUT_BYTES: usize = 16_777_216;
 
 /// Reads the input to its end. A longer one is read until that is known.
 pub fn read_input<S: Source>(alloc: Global, input: &mut S) -> Result<Vec<u8>, Status>
-    ensures whole { IfOk result (λ bytes. Consumes (S.left input.old) (S.left input.new) bytes.items × IsInput bytes.items (S.left input.new)) }
-    ensures part { IfErr result (λ status. (taken : List ℕ) × Consumes (S.left input.old) (S.left input.new) taken × IsUnread status taken) }
+    ensures whole { IfOk result
+        (λ bytes. Consumes (S.left input.old) (S.left input.new) bytes.items
+        × IsInput bytes.items (S.left input.new)) }
+    ensures part { IfErr result
+        (λ status. (taken : List ℕ) × Consumes (S.left input.old) (S.left input.new) taken
+        × IsUnread status taken) }
     ensures kept { OnOk result (S.faults input.new ≡ S.faults input.old) }
     ensures counts { IfErr result (λ status. (h o : ℕ) → Counts status
         (record { shelf = h; input = S.faults input.old; output = o })

@@ -3,7 +3,7 @@ ghost use Rattle.std.specs.Prelude.{◌≡◌, ◌<◌, ◌≤◌, ◌^◌, ◌+
 ghost use Rattle.std.specs.Option.{option_to_list};
 ghost use Rattle.rv_code.specs.State.{Running, start as start_of, register, with_register};
 ghost use Rattle.rv_code.specs.Step.{step as step_of, calls, fetch as word_at};
-ghost use Rattle.bop_top.specs.Machine.{state_of, machine_of, at_next, got};
+ghost use Rattle.bop_top.specs.private.RunningMachine.{state_of, machine_of, at_next, got};
 
 use bop_bits::CODE_FROM;
 use rv_code::{A0, A7, Instr, Program, Stop, Trap, decode};
@@ -22,7 +22,8 @@ impl Machine {
     /// A machine before its first step.
     #[tactic(auto, unfolding(rv_code::specs::State::start))]
     pub fn start(program: &Program) -> Machine
-        ensures { machine_of result (start_of program.now).memory [] ≡ Running (start_of program.now) }
+        ensures { machine_of result (start_of program.now).memory []
+            ≡ Running (start_of program.now) }
     {
         Machine {
             x: [0; 32],
@@ -38,7 +39,8 @@ impl Machine {
         requires going { self.old.stop ≡ None }
         requires short { length input.now ≤ 16777216 }
         requires low { self.old.count < 2 ^ 63 }
-        ensures state { (memory output : List ℕ) → step_of program.now.code input.now (Running (state_of self.old memory output))
+        ensures state { (memory output : List ℕ)
+            → step_of program.now.code input.now (Running (state_of self.old memory output))
             ≡ machine_of self.new memory (output ++ option_to_list result) }
         ensures count { self.new.count ≡ self.old.count + 1 }
     {
@@ -70,7 +72,8 @@ impl Machine {
         requires short { length input.now ≤ 16777216 }
         requires low { self.old.count < 2 ^ 63 }
         ensures state { (memory output : List ℕ) →
-            calls input.now (state_of self.old memory output) (register self.old.x A7) (register self.old.x A0)
+            calls input.now (state_of self.old memory output) (register self.old.x A7)
+            (register self.old.x A0)
             ≡ machine_of self.new memory (output ++ option_to_list result) }
         ensures count { self.new.count ≡ self.old.count + 1 }
     {

@@ -4,12 +4,12 @@ ghost use Rattle.std.specs.Io.KnownBytes.{Appends, Consumes};
 ghost use Rattle.byte_lists.specs.Content.{AppendsPrefix};
 ghost use Rattle.bop_ends.specs.Ends.{HasCause};
 ghost use Rattle.c_layout.specs.Laid.{plan};
-ghost use Rattle.c_layout.specs.Outcome.{plan_of};
+ghost use Rattle.c_layout.specs.LayoutAnswers.{plan_of};
 ghost use Rattle.c_meaning.specs.Answer.{meaning_of};
 ghost use Rattle.c_semantics.specs.Meaning.{meant};
 ghost use Rattle.c_semantics.specs.Outcome.{output_of};
 ghost use Rattle.c_tree.specs.Erase.{erased_text};
-ghost use Rattle.c_tree.specs.View.{parts};
+ghost use Rattle.c_tree.specs.View.{items_of};
 ghost use Rattle.bop_top.specs.Headline.{Means, IsInput, IsUnmeant, HasPut, HasMeant, Counts, meaning_status};
 ghost use Rattle.bop_top.specs.declared.status.Status.TheVariants.{BadWords};
 ghost use Rattle.bop_top.specs.declared.top.TheConstants.{TEXT_BYTES};
@@ -55,9 +55,12 @@ fn meaning<S: Source>(
     input: &mut S,
 ) -> Result<Meant, Status>
     requires { length text.now ≤ TEXT_BYTES }
-    ensures meant { IfOk result (λ answer. (taken : List ℕ) × Consumes (S.left input.old) (S.left input.new) taken
-        × Means text.now taken steps (λ m. m ≡ meaning_of answer) × IsInput taken (S.left input.new)) }
-    ensures refused { IfErr result (λ status. (taken : List ℕ) × Consumes (S.left input.old) (S.left input.new) taken
+    ensures meant { IfOk result
+        (λ answer. (taken : List ℕ) × Consumes (S.left input.old) (S.left input.new) taken
+        × Means text.now taken steps (λ m. m ≡ meaning_of answer)
+        × IsInput taken (S.left input.new)) }
+    ensures refused { IfErr result
+        (λ status. (taken : List ℕ) × Consumes (S.left input.old) (S.left input.new) taken
         × IsUnmeant status text.now taken) }
     ensures kept { OnOk result (S.faults input.new ≡ S.faults input.old) }
     ensures counts { IfErr result (λ status. (h o : ℕ) → Counts status
@@ -83,8 +86,9 @@ fn evaluate_erased(
     input: &[u8],
     steps: u64,
 ) -> Result<Meant, OutOfMemory>
-    requires { plan_of layout.now ≡ plan (parts checked.now.tree) }
-    ensures { IfOk result (λ answer. meaning_of answer ≡ meant (erased_text (parts checked.now.tree)) input.now steps) }
+    requires { plan_of layout.now ≡ plan (items_of checked.now.tree) }
+    ensures { IfOk result (λ answer. meaning_of answer
+        ≡ meant (erased_text (items_of checked.now.tree)) input.now steps) }
 {
     let bare = without_markers(alloc, checked)?;
     evaluate(alloc, &bare, layout, input, steps)
@@ -92,7 +96,7 @@ fn evaluate_erased(
 
 // The tree without its markers.
 fn without_markers(alloc: Global, checked: &Checked) -> Result<Checked, OutOfMemory>
-    ensures { IfOk result (λ bare. parts bare.tree ≡ erased_text (parts checked.now.tree)) }
+    ensures { IfOk result (λ bare. items_of bare.tree ≡ erased_text (items_of checked.now.tree)) }
 {
     let bare = erase(alloc, checked.tree())?;
     Ok(Checked::of(bare))
@@ -100,7 +104,8 @@ fn without_markers(alloc: Global, checked: &Checked) -> Result<Checked, OutOfMem
 
 // Hands the output of a meaning to the sink.
 fn put_meaning<K: Sink>(meant: &Meant, output: &mut K) -> Ending
-    ensures put { HasPut (meaning_of meant.now) result.status result.bytes (K.content output.old) (K.content output.new) }
+    ensures put { HasPut (meaning_of meant.now) result.status result.bytes (K.content output.old)
+        (K.content output.new) }
     ensures words { result.status ≡ BadWords → ⊥ }
     ensures counts { (h i : ℕ) → Counts result.status
         (record { shelf = h; input = i; output = K.faults output.old })
@@ -146,7 +151,8 @@ fn status_of_meaning(meant: &Meant) -> Status
 // Hands all the bytes to the sink at once, where there are any.
 fn put_whole<K: Sink>(bytes: &[u8], output: &mut K) -> Result<(), Failed>
     ensures whole { OnOk result (Appends (K.content output.old) (K.content output.new) bytes.now) }
-    ensures part { OnErr result (AppendsPrefix (K.content output.old) (K.content output.new) bytes.now) }
+    ensures part { OnErr result
+        (AppendsPrefix (K.content output.old) (K.content output.new) bytes.now) }
     ensures cause { HasCause (K.faults output.old) (K.faults output.new) result }
 {
     if bytes.is_empty() {

@@ -23,7 +23,8 @@ pub const REPORT_BYTES: usize = 160;
 /// Reports how a command has ended, and how many bytes it has written where that is told. Answers
 /// how the whole call ends.
 pub fn report_status<R: Sink>(inner: Status, bytes: Option<u64>, report: &mut R) -> Status
-    ensures { Reported inner result bytes (R.content report.old) (R.content report.new) (R.faults report.old) (R.faults report.new) }
+    ensures { Reported inner result bytes (R.content report.old) (R.content report.new)
+        (R.faults report.old) (R.faults report.new) }
 {
     match report.append(text(inner, bytes).as_str().as_bytes()) {
         Ok(()) => inner,

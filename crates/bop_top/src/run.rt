@@ -4,9 +4,9 @@ ghost use Rattle.std.specs.Io.KnownBytes.{Appends};
 ghost use Rattle.byte_lists.specs.Content.{AppendsPrefix};
 ghost use Rattle.bop_ends.specs.Ends.{HasCause};
 ghost use Rattle.rv_code.specs.State.{start, output_of};
-ghost use Rattle.rv_code.specs.Run.{seq};
-ghost use Rattle.bop_top.specs.Machine.{machine_of};
-ghost use Rattle.bop_top.specs.Moved.{Moves};
+ghost use Rattle.rv_code.specs.SequentialRun.{seq};
+ghost use Rattle.bop_top.specs.private.RunningMachine.{machine_of};
+ghost use Rattle.bop_top.specs.private.Moved.{Moves};
 
 use crate::machine::Machine;
 use crate::piece::Piece;
@@ -24,8 +24,12 @@ pub fn run<K: Sink>(
     requires small { budget ≤ 1000000000000 }
     ensures state { IfOk result (λ machine. let end = seq program.now input.now budget in
         machine_of machine (start program.now).memory (output_of end) ≡ end) }
-    ensures whole { OnOk result (Appends (K.content sink.old) (K.content sink.new) (output_of (seq program.now input.now budget))) }
-    ensures part { OnErr result (AppendsPrefix (K.content sink.old) (K.content sink.new) (output_of (seq program.now input.now budget))) }
+    ensures whole { OnOk result
+        (Appends (K.content sink.old) (K.content sink.new)
+        (output_of (seq program.now input.now budget))) }
+    ensures part { OnErr result
+        (AppendsPrefix (K.content sink.old) (K.content sink.new)
+        (output_of (seq program.now input.now budget))) }
     ensures cause { HasCause (K.faults sink.old) (K.faults sink.new) result }
 {
     let mut machine = Machine::start(program);
@@ -43,8 +47,10 @@ pub fn run<K: Sink>(
 fn put<K: Sink>(piece: &mut Piece, byte: u8, sink: &mut K) -> Result<(), Failed>
     requires { length piece.old < 4096 }
     ensures room { OnOk result (length piece.new < 4096) }
-    ensures moved { OnOk result (Moves (K.content sink.old) (K.content sink.new) (piece.old ++ byte ∷ []) piece.new) }
-    ensures part { OnErr result (AppendsPrefix (K.content sink.old) (K.content sink.new) (piece.old ++ byte ∷ [])) }
+    ensures moved { OnOk result
+        (Moves (K.content sink.old) (K.content sink.new) (piece.old ++ byte ∷ []) piece.new) }
+    ensures part { OnErr result
+        (AppendsPrefix (K.content sink.old) (K.content sink.new) (piece.old ++ byte ∷ [])) }
     ensures cause { HasCause (K.faults sink.old) (K.faults sink.new) result }
 {
     piece.push(byte);
@@ -58,7 +64,8 @@ fn put<K: Sink>(piece: &mut Piece, byte: u8, sink: &mut K) -> Result<(), Failed>
 fn flush<K: Sink>(piece: &mut Piece, sink: &mut K) -> Result<(), Failed>
     ensures empty { OnOk result (piece.new ≡ []) }
     ensures moved { OnOk result (Appends (K.content sink.old) (K.content sink.new) piece.old) }
-    ensures part { OnErr result (AppendsPrefix (K.content sink.old) (K.content sink.new) piece.old) }
+    ensures part { OnErr result
+        (AppendsPrefix (K.content sink.old) (K.content sink.new) piece.old) }
     ensures cause { HasCause (K.faults sink.old) (K.faults sink.new) result }
 {
     sink.append(piece.bytes())?;

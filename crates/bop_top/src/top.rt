@@ -1,7 +1,7 @@
 // The top call.
 ghost use Rattle.std.specs.Prelude.{◌≡◌, ◌↔◌, ◌≤◌, [], length, IfOk, OnOk, IfErr, List, ℕ, ℤ, Some, map, string_bytes, IsTrue};
 ghost use Rattle.std.specs.Io.KnownBytes.{Appends};
-ghost use Rattle.bop_top.specs.Words.{AsksMean, AsksNothing};
+ghost use Rattle.bop_top.specs.CommandWords.{AsksMean, AsksNothing};
 ghost use Rattle.bop_top.specs.Headline.{Course, Ended, HasMeant, SeqSays, SeqTransfers, CheckSays, CheckTransfers, Counts, IsUnloaded, refused_status};
 ghost use Rattle.bop_top.specs.declared.status.Status.TheVariants.{BadWords};
 
@@ -47,14 +47,22 @@ pub fn bop_main<S: Source, K: Sink, R: Sink, H: Shelf>(
           file = H.file shelf.old;
           input = S.left input.old;
           output = K.content output;
-          faults = record { shelf = H.faults shelf.old; input = S.faults input.old; output = K.faults output };
+          faults = record {
+            shelf = H.faults shelf.old;
+            input = S.faults input.old;
+            output = K.faults output;
+          };
         })
         (record {
           tells = H.tells shelf.new;
           file = H.file shelf.new;
           input = S.left input.new;
           output = K.content result.1;
-          faults = record { shelf = H.faults shelf.new; input = S.faults input.new; output = K.faults result.1 };
+          faults = record {
+            shelf = H.faults shelf.new;
+            input = S.faults input.new;
+            output = K.faults result.1;
+          };
         })
         (record { content = R.content report.old; faults = R.faults report.old })
         (record { content = R.content report.new; faults = R.faults report.new })
@@ -83,14 +91,22 @@ fn command<S: Source, K: Sink, H: Shelf>(
           file = H.file shelf.old;
           input = S.left input.old;
           output = K.content output.old;
-          faults = record { shelf = H.faults shelf.old; input = S.faults input.old; output = K.faults output.old };
+          faults = record {
+            shelf = H.faults shelf.old;
+            input = S.faults input.old;
+            output = K.faults output.old;
+          };
         })
         (record {
           tells = H.tells shelf.new;
           file = H.file shelf.new;
           input = S.left input.new;
           output = K.content output.new;
-          faults = record { shelf = H.faults shelf.new; input = S.faults input.new; output = K.faults output.new };
+          faults = record {
+            shelf = H.faults shelf.new;
+            input = S.faults input.new;
+            output = K.faults output.new;
+          };
         })
         result.status result.bytes }
     ensures bad_words { (result.status ≡ BadWords) ↔ AsksNothing (map string_bytes words.now) }
@@ -111,9 +127,13 @@ fn load<H: Shelf>(alloc: Global, name: &str, shelf: &mut H) -> Result<Vec<u8>, S
     ensures text { IsTrue (H.tells shelf.old)
         → IfOk result (λ text. H.file shelf.old name.now ≡ Some text.items) }
     ensures fits { IfOk result (λ text. length text.items ≤ TEXT_BYTES) }
-    ensures refused { IfErr result (λ status. IsUnloaded status (IsTrue (H.tells shelf.old)) (H.file shelf.old name.now)) }
+    ensures refused { IfErr result
+        (λ status. IsUnloaded status (IsTrue (H.tells shelf.old)) (H.file shelf.old name.now)) }
     ensures loaded { OnOk result (H.faults shelf.new ≡ H.faults shelf.old) }
-    ensures counts { IfErr result (λ status. (i o : ℕ) → Counts status (record { shelf = H.faults shelf.old; input = i; output = o }) (record { shelf = H.faults shelf.new; input = i; output = o })) }
+    ensures counts { IfErr result
+        (λ status. (i o : ℕ) → Counts status
+        (record { shelf = H.faults shelf.old; input = i; output = o })
+        (record { shelf = H.faults shelf.new; input = i; output = o })) }
     ensures words { IfErr result (λ status. status ≡ BadWords → ⊥) }
     ensures tells { H.tells shelf.new ≡ H.tells shelf.old }
     ensures files { H.file shelf.new ≡ H.file shelf.old }
@@ -128,7 +148,8 @@ fn load<H: Shelf>(alloc: Global, name: &str, shelf: &mut H) -> Result<Vec<u8>, S
 
 // Loads a program and runs it.
 fn seq<K: Sink, H: Shelf>(alloc: Global, name: &str, shelf: &mut H, output: &mut K) -> Status
-    ensures says { (written : List ℕ) × Appends (K.content output.old) (K.content output.new) written
+    ensures says { (written : List ℕ)
+        × Appends (K.content output.old) (K.content output.new) written
         × SeqTransfers result written
         × (IsTrue (H.tells shelf.old) → SeqSays result (H.file shelf.old name.now) written) }
     ensures words { result ≡ BadWords → ⊥ }
@@ -149,7 +170,9 @@ fn check<H: Shelf>(alloc: Global, name: &str, shelf: &mut H) -> Status
     ensures transfers { CheckTransfers result [] }
     ensures says { IsTrue (H.tells shelf.old) → CheckSays result (H.file shelf.old name.now) }
     ensures words { result ≡ BadWords → ⊥ }
-    ensures counts { (i o : ℕ) → Counts result (record { shelf = H.faults shelf.old; input = i; output = o }) (record { shelf = H.faults shelf.new; input = i; output = o }) }
+    ensures counts { (i o : ℕ)
+        → Counts result (record { shelf = H.faults shelf.old; input = i; output = o })
+        (record { shelf = H.faults shelf.new; input = i; output = o }) }
     ensures tells { H.tells shelf.new ≡ H.tells shelf.old }
     ensures files { H.file shelf.new ≡ H.file shelf.old }
 {
@@ -173,8 +196,16 @@ fn mean<S: Source, K: Sink, H: Shelf>(
         (S.left input.old) (S.left input.new) (K.content output.old) (K.content output.new) }
     ensures words { result.status ≡ BadWords → ⊥ }
     ensures counts { Counts result.status
-        (record { shelf = H.faults shelf.old; input = S.faults input.old; output = K.faults output.old })
-        (record { shelf = H.faults shelf.new; input = S.faults input.new; output = K.faults output.new }) }
+        (record {
+          shelf = H.faults shelf.old;
+          input = S.faults input.old;
+          output = K.faults output.old;
+        })
+        (record {
+          shelf = H.faults shelf.new;
+          input = S.faults input.new;
+          output = K.faults output.new;
+        }) }
     ensures tells { H.tells shelf.new ≡ H.tells shelf.old }
     ensures files { H.file shelf.new ≡ H.file shelf.old }
 {
@@ -190,7 +221,9 @@ fn check_text(alloc: Global, text: &[u8]) -> Status
     ensures transfers { CheckTransfers result [] }
     ensures says { CheckSays result (Some text.now) }
     ensures words { result ≡ BadWords → ⊥ }
-    ensures counts { (h i o : ℕ) → Counts result (record { shelf = h; input = i; output = o }) (record { shelf = h; input = i; output = o }) }
+    ensures counts { (h i o : ℕ)
+        → Counts result (record { shelf = h; input = i; output = o })
+        (record { shelf = h; input = i; output = o }) }
 {
     match front(alloc, text) {
         Ok(_) => Status::Fine,
@@ -202,7 +235,9 @@ fn check_text(alloc: Global, text: &[u8]) -> Status
 pub fn status_of(refused: Refused) -> Status
     ensures status { result ≡ refused_status refused }
     ensures words { result ≡ BadWords → ⊥ }
-    ensures counts { (h i o : ℕ) → Counts result (record { shelf = h; input = i; output = o }) (record { shelf = h; input = i; output = o }) }
+    ensures counts { (h i o : ℕ)
+        → Counts result (record { shelf = h; input = i; output = o })
+        (record { shelf = h; input = i; output = o }) }
 {
     match refused {
         Refused::OutOfMemory => Status::OutOfMemory,
@@ -213,11 +248,14 @@ pub fn status_of(refused: Refused) -> Status
 // Compiles a text and runs its program.
 fn seq_text<K: Sink>(alloc: Global, text: &[u8], output: &mut K) -> Status
     requires { length text.now ≤ TEXT_BYTES }
-    ensures says { (written : List ℕ) × Appends (K.content output.old) (K.content output.new) written
+    ensures says { (written : List ℕ)
+        × Appends (K.content output.old) (K.content output.new) written
         × SeqTransfers result written × SeqSays result (Some text.now) written }
     ensures words { result ≡ BadWords → ⊥ }
     ensures load { result ≡ Status.LoadFault → ⊥ }
-    ensures counts { (h i : ℕ) → Counts result (record { shelf = h; input = i; output = K.faults output.old }) (record { shelf = h; input = i; output = K.faults output.new }) }
+    ensures counts { (h i : ℕ)
+        → Counts result (record { shelf = h; input = i; output = K.faults output.old })
+        (record { shelf = h; input = i; output = K.faults output.new }) }
 {
     match compile(alloc, text) {
         Ok(program) => match run(&program, &[], BUDGET, output) {

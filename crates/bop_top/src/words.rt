@@ -2,7 +2,7 @@
 ghost use Rattle.std.specs.Prelude.{◌≡◌, ◌≢◌, ◌↔◌, ◌∷◌, [], List, ℕ, map, string_bytes, MatchOption, IsTrue};
 ghost use Rattle.std.specs.Char.{IsAsciiDigit};
 ghost use Rattle.std.specs.List.{All};
-ghost use Rattle.bop_top.specs.Words.{Request, IsRequest, IsName, IsBudget, request_of};
+ghost use Rattle.bop_top.specs.CommandWords.{Request, IsRequest, IsName, IsBudget, request_of};
 
 use crate::top::BUDGET;
 
@@ -25,7 +25,8 @@ pub enum Command<'a> {
 
 /// What the words ask for.
 pub fn command_of(words: &[String]) -> Option<Command>
-    ensures { MatchOption result ((request : Request) → IsRequest (map string_bytes words.now) request → ⊥)
+    ensures { MatchOption result
+        ((request : Request) → IsRequest (map string_bytes words.now) request → ⊥)
         (λ command. IsRequest (map string_bytes words.now) (request_of command)) }
 {
     match words {
@@ -43,7 +44,8 @@ pub fn command_of(words: &[String]) -> Option<Command>
 // What two words ask for, of which the second is a name.
 fn of_two<'a>(first: &str, name: &'a str) -> Option<Command<'a>>
     requires { IsName name.now }
-    ensures { MatchOption result ((request : Request) → IsRequest (first.now ∷ name.now ∷ []) request → ⊥)
+    ensures { MatchOption result
+        ((request : Request) → IsRequest (first.now ∷ name.now ∷ []) request → ⊥)
         (λ command. IsRequest (first.now ∷ name.now ∷ []) (request_of command)) }
 {
     if first == "seq" {
@@ -60,8 +62,11 @@ fn of_two<'a>(first: &str, name: &'a str) -> Option<Command<'a>>
 // What four words ask for, of which the second is a name.
 fn of_four<'a>(first: &str, name: &'a str, option: &str, digits: &str) -> Option<Command<'a>>
     requires { IsName name.now }
-    ensures { MatchOption result ((request : Request) → IsRequest (first.now ∷ name.now ∷ option.now ∷ digits.now ∷ []) request → ⊥)
-        (λ command. IsRequest (first.now ∷ name.now ∷ option.now ∷ digits.now ∷ []) (request_of command)) }
+    ensures { MatchOption result
+        ((request : Request) → IsRequest
+        (first.now ∷ name.now ∷ option.now ∷ digits.now ∷ []) request → ⊥)
+        (λ command. IsRequest (first.now ∷ name.now ∷ option.now ∷ digits.now ∷ [])
+        (request_of command)) }
 {
     if first != "mean" {
         return None;
@@ -77,7 +82,8 @@ fn of_four<'a>(first: &str, name: &'a str, option: &str, digits: &str) -> Option
 
 // The budget that the digits give.
 fn budget_of(digits: &str) -> Option<u64>
-    ensures { MatchOption result ((budget : ℕ) → IsBudget digits.now budget → ⊥) (IsBudget digits.now) }
+    ensures { MatchOption result ((budget : ℕ) → IsBudget digits.now budget → ⊥)
+        (IsBudget digits.now) }
 {
     if digits.len() > BUDGET_DIGITS {
         return None;

@@ -1,5 +1,5 @@
 pub mod DefinedNames
 pub mod Initialisers
-pub mod Regions
+pub mod RegionLemmas
 pub mod SameTypes
 pub mod Scopes

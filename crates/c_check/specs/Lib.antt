@@ -1,6 +1,2 @@
-pub mod Defined
-pub mod Fault
-pub mod Firsts
-pub mod Functions
-pub mod Marker
-pub mod Parts
+pub mod CheckFaults
+pub mod private

@@ -1,9 +1,9 @@
 //! The functions that a text defines.
 
 ghost use Rattle.std.specs.Prelude.{◌≡◌, ◌||◌, ◌++◌, ◌∷◌, [], ℕ, List, map, bytes_eq, IfOk, OnOk};
-ghost use Rattle.c_tree.specs.Syntax.{Part};
-ghost use Rattle.c_tree.specs.View.{part};
-ghost use Rattle.c_check.specs.Defined.{has, Defines};
+ghost use Rattle.c_tree.specs.Item.{Item as PureItem};
+ghost use Rattle.c_tree.specs.View.{item_of};
+ghost use Rattle.c_check.specs.private.Defined.{has, Defines};
 
 use c_tree::{Item, Name, OutOfMemory};
 use std::alloc::Global;
@@ -35,7 +35,8 @@ impl Defined {
     }
 
     fn add(&mut self, name: &Name) -> Result<(), OutOfMemory>
-        ensures { OnOk result ((other : List ℕ) → has self.new other ≡ (has self.old other || bytes_eq name.now other)) }
+        ensures { OnOk result ((other : List ℕ)
+            → has self.new other ≡ (has self.old other || bytes_eq name.now other)) }
     {
         let bytes = Vec::from_slice(self.alloc, name.get())?;
         self.names.insert(bytes)?;
@@ -44,7 +45,8 @@ impl Defined {
 
     /// One item more.
     pub(crate) fn pass(&mut self, item: &Item) -> Result<(), OutOfMemory>
-        ensures { OnOk result ((ps : List Part) → Defines self.old ps → Defines self.new (ps ++ part item.now ∷ [])) }
+        ensures { OnOk result ((ps : List PureItem) → Defines self.old ps
+            → Defines self.new (ps ++ item_of item.now ∷ [])) }
     {
         match item {
             Item::Vars(_, _) => Ok(()),
@@ -61,7 +63,7 @@ impl Defined {
 
 /// The functions that items define.
 pub(crate) fn defined_by(alloc: Global, items: &[Item]) -> Result<Defined, OutOfMemory>
-    ensures { IfOk result (λ defined. Defines defined (map part items.now)) }
+    ensures { IfOk result (λ defined. Defines defined (map item_of items.now)) }
 {
     let mut defined = Defined::new(alloc);
     for item in items {

@@ -2,8 +2,8 @@
 
 ghost use Rattle.std.specs.Prelude.{◌≡◌, ◌++◌, ◌∷◌, [], map, option_map, IfOk, OnOk, None};
 ghost use Rattle.c_tree.specs.Regions.{edge, edges, body_edges, function_edges, text_edges};
-ghost use Rattle.c_tree.specs.View.{held, statement, statements, part};
-ghost use Rattle.c_check.specs.Parts.{else_edges, part_edges};
+ghost use Rattle.c_tree.specs.View.{boxed_stmt_of, stmt_of, stmts_of, item_of};
+ghost use Rattle.c_check.specs.private.Parts.{else_edges, part_edges};
 
 use c_tree::{Edge, Item, Marker, OutOfMemory, Place, Stmt, StmtKind};
 use std::alloc::Global;
@@ -33,9 +33,9 @@ fn gather_marker(
 
 /// Adds the edges of a statement that stands in a block.
 #[cycle(gather)]
-#[tactic(auto, using(c_tree::proofs::Views::views))]
+#[tactic(auto, using(c_tree::proofs::ViewLemmas::views))]
 fn gather(s: &Stmt, block: Option<Place>, found: &mut Vec<Edge>) -> Result<(), OutOfMemory>
-    ensures { OnOk result (found.new.items ≡ found.old.items ++ edges block (statement s.now)) }
+    ensures { OnOk result (found.new.items ≡ found.old.items ++ edges block (stmt_of s.now)) }
 {
     match &s.kind {
         StmtKind::Block(body) => gather_body(body, Some(s.place), found),
@@ -58,7 +58,8 @@ fn gather(s: &Stmt, block: Option<Place>, found: &mut Vec<Edge>) -> Result<(), O
 
 #[cycle(gather)]
 fn gather_else(other: &Option<Box<Stmt>>, found: &mut Vec<Edge>) -> Result<(), OutOfMemory>
-    ensures { OnOk result (found.new.items ≡ found.old.items ++ else_edges (option_map held other.now)) }
+    ensures { OnOk result (found.new.items
+        ≡ found.old.items ++ else_edges (option_map boxed_stmt_of other.now)) }
 {
     match other {
         None => Ok(()),
@@ -73,7 +74,8 @@ fn gather_body(
     block: Option<Place>,
     found: &mut Vec<Edge>,
 ) -> Result<(), OutOfMemory>
-    ensures { OnOk result (found.new.items ≡ found.old.items ++ body_edges block (statements body.now)) }
+    ensures { OnOk result (found.new.items
+        ≡ found.old.items ++ body_edges block (stmts_of body.now)) }
 {
     for s in body {
         gather(s, block, found)?;
@@ -82,12 +84,14 @@ fn gather_body(
 }
 
 /// Adds the edges of a function's body.
-fn gather_function(
+fn gather_fun(
     body: &Option<Vec<Stmt>>,
     place: Place,
     found: &mut Vec<Edge>,
 ) -> Result<(), OutOfMemory>
-    ensures { OnOk result (found.new.items ≡ found.old.items ++ function_edges place (option_map (λ body. statements body.items) body.now)) }
+    ensures { OnOk result (found.new.items
+        ≡ found.old.items ++ function_edges place
+        (option_map (λ body. stmts_of body.items) body.now)) }
 {
     match body {
         None => Ok(()),
@@ -96,17 +100,17 @@ fn gather_function(
 }
 
 fn gather_item(item: &Item, found: &mut Vec<Edge>) -> Result<(), OutOfMemory>
-    ensures { OnOk result (found.new.items ≡ found.old.items ++ part_edges (part item.now)) }
+    ensures { OnOk result (found.new.items ≡ found.old.items ++ part_edges (item_of item.now)) }
 {
     match item {
         Item::Vars(_, _) => Ok(()),
-        Item::Fun(f) => gather_function(&f.body, f.place, found),
+        Item::Fun(f) => gather_fun(&f.body, f.place, found),
     }
 }
 
 /// The edges of a text.
 pub(crate) fn edges_of(alloc: Global, items: &[Item]) -> Result<Vec<Edge>, OutOfMemory>
-    ensures { IfOk result (λ found. found.items ≡ text_edges (map part items.now)) }
+    ensures { IfOk result (λ found. found.items ≡ text_edges (map item_of items.now)) }
 {
     let mut found = Vec::new(alloc);
     for item in items {

@@ -1,7 +1,7 @@
 //! Why a tree is not accepted.
 
 ghost use Rattle.std.specs.Prelude.{◌≡◌, Some};
-ghost use Rattle.c_check.specs.Fault.{kind_of, IsFault};
+ghost use Rattle.c_check.specs.CheckFaults.{kind_of, IsFault};
 
 use c_tree::{Breach, Broken, Place};
 

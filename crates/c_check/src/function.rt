@@ -1,25 +1,23 @@
 //! Functions (C11 6.7.6.3, 6.9.1).
 
-ghost use Rattle.std.specs.Prelude.{◌≡◌, ◌&&◌, ◌++◌, map, option_map, Some, IfOk, OnOk};
+ghost use Rattle.std.specs.Prelude.{◌≡◌, ◌&&◌, map, option_map, Some, OnOk};
 ghost use Rattle.std.specs.Option.{option_copied};
-ghost use Rattle.c_tree.specs.Accepted.{result_shape, parameter_shapes, same_all, again_breaches, parameter_name_breaches, with_name, with_parameter, with_parameters, parameters_breaches, definition_breaches};
-ghost use Rattle.c_tree.specs.Breach.{least_of, unless};
-ghost use Rattle.c_tree.specs.Declarators.{parameter_shape};
-ghost use Rattle.c_tree.specs.Scope.{entered};
-ghost use Rattle.c_tree.specs.View.{shape, parameter, function, statements};
+ghost use Rattle.c_tree.specs.Accepted.{result_shape, same_all, again_breaches, parameter_name_breaches, with_name, with_parameter, with_parameters, parameters_breaches, definition_breaches};
+ghost use Rattle.c_tree.specs.Breach.{Adds};
+ghost use Rattle.c_tree.specs.View.{ty_of, param_of, fun_of};
 ghost use Rattle.c_types.specs.Env.{scope_of, known};
-ghost use Rattle.c_check.specs.Functions.{declared_function, heading_breaches, routine_breaches};
+ghost use Rattle.c_check.specs.private.Functions.{declared_function, heading_breaches, routine_breaches};
 
 use crate::statement::check_body;
 use c_tree::{Broken, CType, Fun, Least, Name, OutOfMemory, Param, Place};
-use c_types::{Env, Known, note, parameter_type, parameter_types, pointed, same_type};
+use c_types::{Env, Known, note, parameter_type, parameter_types, pointer_to, same_type};
 use std::alloc::Global;
 
 /// The most parameters that a function can have.
 const MOST_PARAMETERS: usize = 8;
 
 fn same_types(a: &[CType], b: &[CType]) -> bool
-    ensures { result ≡ same_all (map shape a.now) (map shape b.now) }
+    ensures { result ≡ same_all (map ty_of a.now) (map ty_of b.now) }
 {
     if a.len() != b.len() {
         return false;
@@ -40,7 +38,9 @@ fn check_again(
     place: Place,
     least: &mut Least,
 )
-    ensures { least.new ≡ least_of least.old (again_breaches (option_map known (option_copied found.entry)) (shape gives.now) (map shape types.now) place) }
+    ensures { Adds least.old least.new
+        (again_breaches (option_map known (option_copied found.entry)) (ty_of gives.now)
+        (map ty_of types.now) place) }
 {
     match found {
         None => {}
@@ -68,9 +68,11 @@ fn check_heading(
     env: &mut Env,
     least: &mut Least,
 ) -> Result<(), OutOfMemory>
-    requires { shape gives.now ≡ result_shape (function f.now) }
-    ensures scope { OnOk result (scope_of env.new ≡ declared_function is_defined (function f.now) (scope_of env.old)) }
-    ensures least { OnOk result (least.new ≡ least_of least.old (heading_breaches (scope_of env.old) (function f.now))) }
+    requires { ty_of gives.now ≡ result_shape (fun_of f.now) }
+    ensures scope { OnOk result
+        (scope_of env.new ≡ declared_function is_defined (fun_of f.now) (scope_of env.old)) }
+    ensures least { OnOk result
+        (Adds least.old least.new (heading_breaches (scope_of env.old) (fun_of f.now))) }
 {
     let types = parameter_types(alloc, &f.params)?;
     check_again(env.find_here(&f.name), gives, &types, f.place, least);
@@ -81,7 +83,7 @@ fn check_heading(
 
 /// Notes a parameter without a name, or with one that another has.
 fn check_name(name: &Option<Name>, place: Place, env: &Env, least: &mut Least)
-    ensures { least.new ≡ least_of least.old (parameter_name_breaches (scope_of env.now) name.now place) }
+    ensures { Adds least.old least.new (parameter_name_breaches (scope_of env.now) name.now place) }
 {
     match name {
         None => note(least, false, Broken::Arguments, place),
@@ -90,7 +92,7 @@ fn check_name(name: &Option<Name>, place: Place, env: &Env, least: &mut Least)
 }
 
 fn declare_name(name: &Option<Name>, ty: CType, env: &mut Env) -> Result<(), OutOfMemory>
-    ensures { OnOk result (scope_of env.new ≡ with_name name.now (shape ty) (scope_of env.old)) }
+    ensures { OnOk result (scope_of env.new ≡ with_name name.now (ty_of ty) (scope_of env.old)) }
 {
     match name {
         None => Ok(()),
@@ -98,14 +100,17 @@ fn declare_name(name: &Option<Name>, ty: CType, env: &mut Env) -> Result<(), Out
     }
 }
 
-fn check_parameter(
+fn check_param(
     alloc: Global,
     p: &Param,
     env: &mut Env,
     least: &mut Least,
 ) -> Result<(), OutOfMemory>
-    ensures scope { OnOk result (scope_of env.new ≡ with_parameter (parameter p.now) (scope_of env.old)) }
-    ensures least { OnOk result (least.new ≡ least_of least.old (parameter_name_breaches (scope_of env.old) p.now.name p.now.place)) }
+    ensures scope { OnOk result
+        (scope_of env.new ≡ with_parameter (param_of p.now) (scope_of env.old)) }
+    ensures least { OnOk result
+        (Adds least.old least.new
+        (parameter_name_breaches (scope_of env.old) p.now.name p.now.place)) }
 {
     check_name(&p.name, p.place, env, least);
     let ty = parameter_type(alloc, p)?;
@@ -114,24 +119,27 @@ fn check_parameter(
 
 /// Notes what the parameters of a definition break, whose names are then in scope.
 #[tactic(auto, using(c_tree::proofs::LeastBreach::append_rules))]
-fn check_parameters(
+fn check_params(
     alloc: Global,
     params: &[Param],
     env: &mut Env,
     least: &mut Least,
 ) -> Result<(), OutOfMemory>
-    ensures scope { OnOk result (scope_of env.new ≡ with_parameters (map parameter params.now) (scope_of env.old)) }
-    ensures least { OnOk result (least.new ≡ least_of least.old (parameters_breaches (scope_of env.old) (map parameter params.now))) }
+    ensures scope { OnOk result
+        (scope_of env.new ≡ with_parameters (map param_of params.now) (scope_of env.old)) }
+    ensures least { OnOk result
+        (Adds least.old least.new
+        (parameters_breaches (scope_of env.old) (map param_of params.now))) }
 {
     for p in params {
-        check_parameter(alloc, p, env, least)?;
+        check_param(alloc, p, env, least)?;
     }
     Ok(())
 }
 
 /// Notes what a definition breaks. The parameters are in the block of the body.
 #[tactic(auto, using(c_tree::proofs::LeastBreach::append_rules))]
-fn check_definition(
+fn check_fun_body(
     alloc: Global,
     f: &Fun,
     gives: &CType,
@@ -139,16 +147,19 @@ fn check_definition(
     env: &mut Env,
     least: &mut Least,
 ) -> Result<(), OutOfMemory>
-    requires { shape gives.now ≡ result_shape (function f.now) }
+    requires { ty_of gives.now ≡ result_shape (fun_of f.now) }
     ensures scope { OnOk result (scope_of env.new ≡ scope_of env.old) }
-    ensures least { OnOk result (least.new ≡ least_of least.old (definition_breaches was_defined (scope_of env.old) (function f.now) (function f.now).body)) }
+    ensures least { OnOk result
+        (Adds least.old least.new
+        (definition_breaches was_defined (scope_of env.old) (fun_of f.now)
+        (fun_of f.now).body)) }
 {
     let Some(body) = &f.body else {
         return Ok(());
     };
     note(least, !was_defined, Broken::Twice, f.place);
     env.enter()?;
-    check_parameters(alloc, &f.params, env, least)?;
+    check_params(alloc, &f.params, env, least)?;
     check_body(alloc, body, gives, false, env, least)?;
     env.leave();
     Ok(())
@@ -164,10 +175,13 @@ pub(crate) fn check_function(
     env: &mut Env,
     least: &mut Least,
 ) -> Result<(), OutOfMemory>
-    ensures scope { OnOk result (scope_of env.new ≡ declared_function is_defined (function f.now) (scope_of env.old)) }
-    ensures least { OnOk result (least.new ≡ least_of least.old (routine_breaches is_defined was_defined (scope_of env.old) (function f.now))) }
+    ensures scope { OnOk result
+        (scope_of env.new ≡ declared_function is_defined (fun_of f.now) (scope_of env.old)) }
+    ensures least { OnOk result
+        (Adds least.old least.new
+        (routine_breaches is_defined was_defined (scope_of env.old) (fun_of f.now))) }
 {
-    let gives = pointed(alloc, &f.base, f.stars)?;
+    let gives = pointer_to(alloc, &f.base, f.stars)?;
     check_heading(alloc, f, &gives, is_defined, env, least)?;
-    check_definition(alloc, f, &gives, was_defined, env, least)
+    check_fun_body(alloc, f, &gives, was_defined, env, least)
 }

@@ -2,11 +2,11 @@
 
 ghost use Rattle.std.specs.Prelude.{◌≡◌, option_map};
 ghost use Rattle.std.specs.Option.{option_copied};
-ghost use Rattle.c_tree.specs.Breach.{least_of};
+ghost use Rattle.c_tree.specs.Breach.{Adds};
 ghost use Rattle.c_tree.specs.Statements.{named_breaches, count_breaches, marker_breaches};
-ghost use Rattle.c_tree.specs.View.{shape};
+ghost use Rattle.c_tree.specs.View.{ty_of};
 ghost use Rattle.c_types.specs.Env.{scope_of, known};
-ghost use Rattle.c_check.specs.Marker.{can_be};
+ghost use Rattle.c_check.specs.private.Marker.{can_be};
 
 use c_tree::{Broken, CType, Count, Least, Marker, Place};
 use c_types::{Env, Known, Seen, note};
@@ -21,7 +21,7 @@ pub(crate) enum Role {
 impl Role {
     /// Whether a variable of a type can have it.
     fn can_be(self, ty: &CType) -> bool
-        ensures { result ≡ can_be self (shape ty.now) }
+        ensures { result ≡ can_be self (ty_of ty.now) }
     {
         match self {
             Role::Source => Seen::of(ty).decay().is_pointer(),
@@ -32,7 +32,8 @@ impl Role {
 
 /// Notes what a name in a marker breaks, by what it stands for.
 fn check_named(role: Role, found: Option<&Known>, name_at: Place, at: Place, least: &mut Least)
-    ensures { least.new ≡ least_of least.old (named_breaches (can_be role) (option_map known (option_copied found.entry)) name_at at) }
+    ensures { Adds least.old least.new
+        (named_breaches (can_be role) (option_map known (option_copied found.entry)) name_at at) }
 {
     match found {
         None => note(least, false, Broken::Unknown, name_at),
@@ -42,7 +43,7 @@ fn check_named(role: Role, found: Option<&Known>, name_at: Place, at: Place, lea
 }
 
 fn check_count(count: &Count, at: Place, env: &Env, least: &mut Least)
-    ensures { least.new ≡ least_of least.old (count_breaches (scope_of env.now) count.now at) }
+    ensures { Adds least.old least.new (count_breaches (scope_of env.now) count.now at) }
 {
     match count {
         Count::Number(_) => {}
@@ -55,7 +56,7 @@ fn check_count(count: &Count, at: Place, env: &Env, least: &mut Least)
 /// Notes what a marker breaks by itself.
 #[tactic(auto, using(c_tree::proofs::LeastBreach::append_rules))]
 pub(crate) fn check_marker(marker: &Marker, at: Place, env: &Env, least: &mut Least)
-    ensures { least.new ≡ least_of least.old (marker_breaches (scope_of env.now) marker.now at) }
+    ensures { Adds least.old least.new (marker_breaches (scope_of env.now) marker.now at) }
 {
     match marker {
         Marker::Begin(number) => note(least, *number < 256, Broken::Marker, at),

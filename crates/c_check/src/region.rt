@@ -1,12 +1,12 @@
 //! Regions: each number begins and ends at most once, both or neither, in one block, and begins first.
 
-ghost use Rattle.std.specs.Prelude.{◌≡◌, ◌++◌, ◌∷◌, ◌==◌, [], Bool, ℕ, List, Some, None, IfOk, OnOk, if◌then◌else◌};
+ghost use Rattle.std.specs.Prelude.{◌≡◌, ◌++◌, ◌∷◌, ◌==◌, [], ℕ, List, Some, None, IfOk, OnOk, if◌then◌else◌};
 ghost use Rattle.std.specs.BTreeMap.{get};
 ghost use Rattle.std.specs.Ordering.{nat_cmp};
-ghost use Rattle.c_tree.specs.Breach.{least_of};
-ghost use Rattle.c_tree.specs.Regions.{is_same_place, is_same_block, is_edge, first_edge, is_right_before, is_right, edge_breaches};
+ghost use Rattle.c_tree.specs.Breach.{Adds};
+ghost use Rattle.c_tree.specs.Regions.{is_same_block, is_right_before, is_right, edge_breaches};
 ghost use Rattle.c_tree.specs.Scope.{otherwise};
-ghost use Rattle.c_check.specs.Firsts.{first_of, HasFirsts};
+ghost use Rattle.c_check.specs.private.Firsts.{first_of, HasFirsts};
 
 use c_tree::{Broken, Edge, Least, OutOfMemory, Place};
 use c_types::note;
@@ -22,7 +22,9 @@ pub(crate) struct Firsts {
 
 /// Keeps an edge, unless one of its number is there.
 fn keep_first(edges: &mut BTreeMap<u32, Edge>, edge: Edge) -> Result<(), OutOfMemory>
-    ensures { OnOk result ((k : ℕ) → get nat_cmp edges.new k ≡ otherwise (get nat_cmp edges.old k) (if edge.number == k then Some edge else None)) }
+    ensures { OnOk result ((k : ℕ)
+        → get nat_cmp edges.new k
+        ≡ otherwise (get nat_cmp edges.old k) (if edge.number == k then Some edge else None)) }
 {
     if !edges.contains_key(&edge.number) {
         edges.insert(edge.number, edge)?;
@@ -53,7 +55,8 @@ impl Firsts {
 
     /// One edge more.
     fn add(&mut self, edge: Edge) -> Result<(), OutOfMemory>
-        ensures { OnOk result ((es : List Edge) → HasFirsts self.old es → HasFirsts self.new (es ++ edge ∷ [])) }
+        ensures { OnOk result ((es : List Edge) → HasFirsts self.old es
+            → HasFirsts self.new (es ++ edge ∷ [])) }
     {
         if edge.begins {
             keep_first(&mut self.begins, edge)
@@ -95,7 +98,8 @@ fn is_right_before(edge: Edge, partner: Option<Edge>) -> bool
 
 /// An edge is right, by the first edges before it and those of the whole list.
 fn is_right(before: &Firsts, edge: Edge, whole: &Firsts) -> bool
-    ensures { (es rest : List Edge) → HasFirsts before.now es → HasFirsts whole.now (es ++ edge ∷ rest) → result ≡ is_right es edge rest }
+    ensures { (es rest : List Edge) → HasFirsts before.now es
+        → HasFirsts whole.now (es ++ edge ∷ rest) → result ≡ is_right es edge rest }
 {
     if before.find(edge.begins, edge.number).is_some() {
         return false;
@@ -111,7 +115,7 @@ pub(crate) fn check_edges(
     edges: &[Edge],
     least: &mut Least,
 ) -> Result<(), OutOfMemory>
-    ensures { OnOk result (least.new ≡ least_of least.old (edge_breaches [] edges.now)) }
+    ensures { OnOk result (Adds least.old least.new (edge_breaches [] edges.now)) }
 {
     let whole = firsts_of(alloc, edges)?;
     let mut before = Firsts::new(alloc);

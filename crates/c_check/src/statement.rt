@@ -1,17 +1,16 @@
 //! Statements (C11 6.8).
 
-ghost use Rattle.std.specs.Prelude.{◌≡◌, ◌&&◌, ◌++◌, not, true, false, None, OnOk, option_map};
-ghost use Rattle.c_tree.specs.Breach.{least_of, unless};
-ghost use Rattle.c_tree.specs.Breaches.{breaches, may_take};
+ghost use Rattle.std.specs.Prelude.{◌≡◌, ◌&&◌, not, true, false, None, OnOk, option_map};
+ghost use Rattle.c_tree.specs.Breach.{Adds};
+ghost use Rattle.c_tree.specs.Breaches.{may_take};
 ghost use Rattle.c_tree.specs.Rules.{is_nought};
 ghost use Rattle.c_tree.specs.Scope.{entered};
 ghost use Rattle.c_tree.specs.Shapes.{is_void};
 ghost use Rattle.c_tree.specs.Statements.{behind, behind_beginning, test_breaches, optional_test_breaches, unused_breaches, beginning_breaches, return_breaches, statement_breaches, body_breaches};
-ghost use Rattle.c_tree.specs.Typing.{type_at};
-ghost use Rattle.c_tree.specs.View.{expression, shape, beginning, held, statement, statements};
+ghost use Rattle.c_tree.specs.View.{expr_of, ty_of, first_of, boxed_stmt_of, stmt_of, stmts_of};
 ghost use Rattle.c_types.specs.Env.{scope_of};
 ghost use Rattle.c_types.specs.Seen.{seen_some};
-ghost use Rattle.c_check.specs.Parts.{else_breaches, head_breaches};
+ghost use Rattle.c_check.specs.private.Parts.{else_breaches, head_breaches};
 
 use crate::declarator::check_declarators;
 use crate::marker::check_marker;
@@ -22,14 +21,15 @@ use std::alloc::Global;
 /// Notes what a condition breaks.
 #[tactic(auto, using(c_tree::proofs::LeastBreach::append_rules))]
 fn check_test(test: &Expr, place: Place, env: &Env, least: &mut Least)
-    ensures { least.new ≡ least_of least.old (test_breaches (scope_of env.now) (expression test.now) place) }
+    ensures { Adds least.old least.new (test_breaches (scope_of env.now) (expr_of test.now) place) }
 {
     let ty = walk(test, env, true, least);
     note(least, may_test(ty), Broken::Mismatch, place);
 }
 
 fn check_optional_test(test: &Option<Expr>, place: Place, env: &Env, least: &mut Least)
-    ensures { least.new ≡ least_of least.old (optional_test_breaches (scope_of env.now) (option_map expression test.now) place) }
+    ensures { Adds least.old least.new
+        (optional_test_breaches (scope_of env.now) (option_map expr_of test.now) place) }
 {
     if let Some(test) = test {
         check_test(test, place, env, least);
@@ -38,7 +38,8 @@ fn check_optional_test(test: &Option<Expr>, place: Place, env: &Env, least: &mut
 
 /// Notes what an expression breaks whose value isn't used.
 fn check_unused(e: &Option<Expr>, env: &Env, least: &mut Least)
-    ensures { least.new ≡ least_of least.old (unused_breaches (scope_of env.now) (option_map expression e.now)) }
+    ensures { Adds least.old least.new
+        (unused_breaches (scope_of env.now) (option_map expr_of e.now)) }
 {
     if let Some(e) = e {
         let _ty = walk(e, env, false, least);
@@ -47,7 +48,8 @@ fn check_unused(e: &Option<Expr>, env: &Env, least: &mut Least)
 
 /// A function with a result returns a value of a type.
 fn may_return(gives: &CType, nought: bool, ty: Option<Seen>) -> bool
-    ensures { result ≡ (not (is_void (shape gives.now)) && may_take (shape gives.now) nought (seen_some ty.entry)) }
+    ensures { result ≡ (not (is_void (ty_of gives.now))
+        && may_take (ty_of gives.now) nought (seen_some ty.entry)) }
 {
     !is_void(gives) && may_take(Seen::of(gives), nought, ty)
 }
@@ -55,7 +57,9 @@ fn may_return(gives: &CType, nought: bool, ty: Option<Seen>) -> bool
 /// Notes what a `return` breaks (6.8.6.4).
 #[tactic(auto, using(c_tree::proofs::LeastBreach::append_rules))]
 fn check_return(value: &Option<Expr>, gives: &CType, place: Place, env: &Env, least: &mut Least)
-    ensures { least.new ≡ least_of least.old (return_breaches (scope_of env.now) (shape gives.now) (option_map expression value.now) place) }
+    ensures { Adds least.old least.new
+        (return_breaches (scope_of env.now) (ty_of gives.now)
+        (option_map expr_of value.now) place) }
 {
     match value {
         None => note(least, is_void(gives), Broken::Mismatch, place),
@@ -74,8 +78,10 @@ fn check_first(
     env: &mut Env,
     least: &mut Least,
 ) -> Result<(), OutOfMemory>
-    ensures scope { OnOk result (scope_of env.new ≡ behind_beginning (beginning first.now) (scope_of env.old)) }
-    ensures least { OnOk result (least.new ≡ least_of least.old (beginning_breaches (scope_of env.old) (beginning first.now))) }
+    ensures scope { OnOk result
+        (scope_of env.new ≡ behind_beginning (first_of first.now) (scope_of env.old)) }
+    ensures least { OnOk result
+        (Adds least.old least.new (beginning_breaches (scope_of env.old) (first_of first.now))) }
 {
     match first {
         First::Nothing => Ok(()),
@@ -89,7 +95,7 @@ fn check_first(
 
 /// Notes what the head of a `for` breaks. The names that it declares are then in scope.
 #[tactic(auto, using(c_tree::proofs::LeastBreach::append_rules))]
-fn check_head(
+fn check_for_head(
     alloc: Global,
     first: &First,
     test: &Option<Expr>,
@@ -98,8 +104,12 @@ fn check_head(
     env: &mut Env,
     least: &mut Least,
 ) -> Result<(), OutOfMemory>
-    ensures scope { OnOk result (scope_of env.new ≡ behind_beginning (beginning first.now) (scope_of env.old)) }
-    ensures least { OnOk result (least.new ≡ least_of least.old (head_breaches (beginning first.now) (option_map expression test.now) (option_map expression step.now) place (scope_of env.old))) }
+    ensures scope { OnOk result
+        (scope_of env.new ≡ behind_beginning (first_of first.now) (scope_of env.old)) }
+    ensures least { OnOk result
+        (Adds least.old least.new
+        (head_breaches (first_of first.now) (option_map expr_of test.now)
+        (option_map expr_of step.now) place (scope_of env.old))) }
 {
     check_first(alloc, first, env, least)?;
     check_optional_test(test, place, env, least);
@@ -109,8 +119,8 @@ fn check_head(
 
 /// Notes what a statement breaks in a function that gives a type. The names that it declares are then in scope.
 #[cycle(statement)]
-#[tactic(auto, using(c_tree::proofs::Views::views, c_tree::proofs::LeastBreach::append_rules))]
-fn check_statement(
+#[tactic(auto, using(c_tree::proofs::ViewLemmas::views, c_tree::proofs::LeastBreach::append_rules))]
+fn check_stmt(
     alloc: Global,
     s: &Stmt,
     gives: &CType,
@@ -118,8 +128,10 @@ fn check_statement(
     env: &mut Env,
     least: &mut Least,
 ) -> Result<(), OutOfMemory>
-    ensures scope { OnOk result (scope_of env.new ≡ behind (statement s.now) (scope_of env.old)) }
-    ensures least { OnOk result (least.new ≡ least_of least.old (statement_breaches (shape gives.now) in_loop (statement s.now) (scope_of env.old))) }
+    ensures scope { OnOk result (scope_of env.new ≡ behind (stmt_of s.now) (scope_of env.old)) }
+    ensures least { OnOk result
+        (Adds least.old least.new
+        (statement_breaches (ty_of gives.now) in_loop (stmt_of s.now) (scope_of env.old))) }
 {
     match &s.kind {
         StmtKind::Empty => {}
@@ -144,7 +156,7 @@ fn check_statement(
         }
         StmtKind::For(first, test, step, body) => {
             env.enter()?;
-            check_head(alloc, first, test, step, s.place, env, least)?;
+            check_for_head(alloc, first, test, step, s.place, env, least)?;
             check_inner(alloc, body, gives, true, env, least)?;
             env.leave();
         }
@@ -167,7 +179,10 @@ fn check_block(
     least: &mut Least,
 ) -> Result<(), OutOfMemory>
     ensures scope { OnOk result (scope_of env.new ≡ scope_of env.old) }
-    ensures least { OnOk result (least.new ≡ least_of least.old (body_breaches (shape gives.now) in_loop (statements body.now) (entered (scope_of env.old)))) }
+    ensures least { OnOk result
+        (Adds least.old least.new
+        (body_breaches (ty_of gives.now) in_loop (stmts_of body.now)
+        (entered (scope_of env.old)))) }
 {
     env.enter()?;
     check_body(alloc, body, gives, in_loop, env, least)?;
@@ -186,10 +201,13 @@ fn check_inner(
     least: &mut Least,
 ) -> Result<(), OutOfMemory>
     ensures scope { OnOk result (scope_of env.new ≡ scope_of env.old) }
-    ensures least { OnOk result (least.new ≡ least_of least.old (statement_breaches (shape gives.now) in_loop (statement s.now) (entered (scope_of env.old)))) }
+    ensures least { OnOk result
+        (Adds least.old least.new
+        (statement_breaches (ty_of gives.now) in_loop (stmt_of s.now)
+        (entered (scope_of env.old)))) }
 {
     env.enter()?;
-    check_statement(alloc, s, gives, in_loop, env, least)?;
+    check_stmt(alloc, s, gives, in_loop, env, least)?;
     env.leave();
     Ok(())
 }
@@ -205,7 +223,10 @@ fn check_else(
     least: &mut Least,
 ) -> Result<(), OutOfMemory>
     ensures scope { OnOk result (scope_of env.new ≡ scope_of env.old) }
-    ensures least { OnOk result (least.new ≡ least_of least.old (else_breaches (shape gives.now) in_loop (option_map held other.now) (scope_of env.old))) }
+    ensures least { OnOk result
+        (Adds least.old least.new
+        (else_breaches (ty_of gives.now) in_loop (option_map boxed_stmt_of other.now)
+        (scope_of env.old))) }
 {
     match other {
         None => Ok(()),
@@ -225,10 +246,12 @@ pub(crate) fn check_body(
     least: &mut Least,
 ) -> Result<(), OutOfMemory>
     ensures outer { OnOk result ((scope_of env.new).outer ≡ (scope_of env.old).outer) }
-    ensures least { OnOk result (least.new ≡ least_of least.old (body_breaches (shape gives.now) in_loop (statements body.now) (scope_of env.old))) }
+    ensures least { OnOk result
+        (Adds least.old least.new
+        (body_breaches (ty_of gives.now) in_loop (stmts_of body.now) (scope_of env.old))) }
 {
     for s in body {
-        check_statement(alloc, s, gives, in_loop, env, least)?;
+        check_stmt(alloc, s, gives, in_loop, env, least)?;
     }
     Ok(())
 }

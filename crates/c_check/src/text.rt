@@ -1,14 +1,14 @@
 //! Whole texts (C11 6.9).
 
-ghost use Rattle.std.specs.Prelude.{◌≡◌, ◌++◌, [], List, map, IfOk, OnOk, MatchResult};
+ghost use Rattle.std.specs.Prelude.{◌≡◌, [], List, map, IfOk, OnOk, MatchResult};
 ghost use Rattle.c_tree.specs.Accepted.{part_breaches, behind_part, parts_breaches, text_breaches, text_fault};
-ghost use Rattle.c_tree.specs.Breach.{least_of, nothing_found};
+ghost use Rattle.c_tree.specs.Breach.{least_of, nothing_found, Adds};
 ghost use Rattle.c_tree.specs.Scope.{empty_scope};
-ghost use Rattle.c_tree.specs.Syntax.{Part};
-ghost use Rattle.c_tree.specs.View.{part, parts};
+ghost use Rattle.c_tree.specs.Item.{Item as PureItem};
+ghost use Rattle.c_tree.specs.View.{item_of, items_of};
 ghost use Rattle.c_types.specs.Env.{scope_of};
-ghost use Rattle.c_check.specs.Defined.{Defines};
-ghost use Rattle.c_check.specs.Fault.{IsFault};
+ghost use Rattle.c_check.specs.private.Defined.{Defines};
+ghost use Rattle.c_check.specs.CheckFaults.{IsFault};
 
 use crate::declarator::check_declarators;
 use crate::defined::{Defined, defined_by};
@@ -30,8 +30,11 @@ fn check_item(
     env: &mut Env,
     least: &mut Least,
 ) -> Result<(), OutOfMemory>
-    ensures scope { (all : List Part) → Defines whole.now all → OnOk result (scope_of env.new ≡ behind_part all (part item.now) (scope_of env.old)) }
-    ensures least { (all ps : List Part) → Defines whole.now all → Defines before.now ps → OnOk result (least.new ≡ least_of least.old (part_breaches all ps (scope_of env.old) (part item.now))) }
+    ensures scope { (all : List PureItem) → Defines whole.now all
+        → OnOk result (scope_of env.new ≡ behind_part all (item_of item.now) (scope_of env.old)) }
+    ensures least { (all ps : List PureItem) → Defines whole.now all → Defines before.now ps
+        → OnOk result (Adds least.old least.new
+        (part_breaches all ps (scope_of env.old) (item_of item.now))) }
 {
     match item {
         Item::Vars(_, vars) => check_declarators(alloc, true, vars, env, least),
@@ -46,7 +49,8 @@ fn check_item(
 /// Notes what the items of a text break.
 #[tactic(auto, using(c_tree::proofs::LeastBreach::append_rules))]
 fn check_items(alloc: Global, items: &[Item], least: &mut Least) -> Result<(), OutOfMemory>
-    ensures { OnOk result (least.new ≡ least_of least.old (parts_breaches (map part items.now) [] empty_scope (map part items.now))) }
+    ensures { OnOk result (Adds least.old least.new
+        (parts_breaches (map item_of items.now) [] empty_scope (map item_of items.now))) }
 {
     let whole = defined_by(alloc, items)?;
     let mut before = Defined::new(alloc);
@@ -61,7 +65,8 @@ fn check_items(alloc: Global, items: &[Item], least: &mut Least) -> Result<(), O
 /// The least breach of a text, but for a `main` that is missing.
 #[tactic(auto, using(c_tree::proofs::LeastBreach::append_rules))]
 fn least_breach(alloc: Global, tree: &Tree) -> Result<Least, OutOfMemory>
-    ensures { IfOk result (λ least. least ≡ least_of (nothing_found Ranking.ForChecks) (text_breaches (parts tree.now))) }
+    ensures { IfOk result (λ least. least
+        ≡ least_of (nothing_found Ranking.ForChecks) (text_breaches (items_of tree.now))) }
 {
     let mut least = none_found(Ranking::ForChecks);
     check_items(alloc, &tree.items, &mut least)?;
@@ -72,8 +77,10 @@ fn least_breach(alloc: Global, tree: &Tree) -> Result<Least, OutOfMemory>
 
 /// The tree as an accepted one, or why it isn't, by its least breach.
 fn finish(tree: Tree, found: Option<Breach>) -> Result<Checked, CheckFault>
-    requires { found ≡ (least_of (nothing_found Ranking.ForChecks) (text_breaches (parts tree))).found }
-    ensures { MatchResult result (λ checked. checked.tree ≡ tree) (λ fault. IsFault fault (text_fault (parts tree))) }
+    requires { found ≡ (least_of (nothing_found Ranking.ForChecks)
+        (text_breaches (items_of tree))).found }
+    ensures { MatchResult result (λ checked. checked.tree ≡ tree)
+        (λ fault. IsFault fault (text_fault (items_of tree))) }
 {
     if let Some(breach) = found {
         return Err(fault_of(breach));
@@ -87,7 +94,8 @@ fn finish(tree: Tree, found: Option<Breach>) -> Result<Checked, CheckFault>
 
 /// The tree as one that breaks no rule of the language, or its fault.
 pub fn check(alloc: Global, tree: Tree) -> Result<Checked, CheckFault>
-    ensures { MatchResult result (λ checked. checked.tree ≡ tree) (λ fault. IsFault fault (text_fault (parts tree))) }
+    ensures { MatchResult result (λ checked. checked.tree ≡ tree)
+        (λ fault. IsFault fault (text_fault (items_of tree))) }
 {
     match least_breach(alloc, &tree) {
         Err(_refused) => Err(CheckFault::OutOfMemory),

@@ -3,9 +3,9 @@ pub mod Takes
 pub mod CompleteDeclarations
 pub mod CompleteStatements
 pub mod CompleteUnits
-pub mod Placed
-pub mod Once
-pub mod Ends
+pub mod PlacedItems
+pub mod OneTextTree
+pub mod EndedTokensLemmas
 pub mod SoundParts
 pub mod SoundDeclarators
 pub mod SoundDeclarations
@@ -19,4 +19,4 @@ pub mod SoundNested
 pub mod SoundItems
 pub mod SoundUnits
 pub mod SoundWhole
-pub mod Exact
+pub mod ExactTexts

@@ -1,61 +1,72 @@
 -- More depth than room changes nothing.
 use Rattle.std.proofs.Common.{◌≡◌, ◌<◌, ◌≤◌, ◌-◌, ℕ, zero, suc, List, [], ◌∷◌, ◌++◌, length, Option, Some, None, Bool, true, false, Ok, Err, refl, ap, ◌∙◌, arith, inl, inr, ◌⊎◌}
 use Rattle.std.specs.Prelude.{codes}
-use Rattle.c_tree.specs.Syntax.{Expression, Statement, Compound, Fork, Loop, LoopOnce, LoopFrom}
-use Rattle.c_tree.specs.View.{statement_row}
+use Rattle.c_tree.specs.Expr.{Expr}
+use Rattle.c_tree.specs.Stmt.{Stmt}
+use Rattle.c_tree.specs.Stmt as stmt
+use Rattle.c_tree.specs.View.{stmts_list}
 use Rattle.c_tree.specs.declared.place.Place.{Place}
 use Rattle.c_token.specs.declared.token.Token.{Token}
 use Rattle.c_expr.specs.Spelled.{sign}
 use Rattle.c_expr.specs.Next.{Outcome, ◌>>=◌, kind_of, is_base, take, expect}
-use Rattle.c_expr.specs.Reading.{turn, turns}
-use Rattle.c_decl.specs.Words.{word}
-use Rattle.c_decl.specs.Reading.{is_next}
-use Rattle.c_decl.specs.StatementReading.{opening_of, fault_at_statement, test, optional, beginning, otherwise_by, otherwise, branch, repeated, done_once, counted, part_by, body_turn_by, body_turn, body, block, opened_by, opened, statement, stated}
+use Rattle.c_expr.specs.private.ExpressionReading.{turn, turns}
+use Rattle.c_decl.specs.GrammarWords.{word}
+use Rattle.c_decl.specs.private.DeclarationReading.{is_next}
+use Rattle.c_decl.specs.private.StatementReading.{opening_of, fault_at_statement, test, optional, beginning, else_part_by, else_part, if_stmt, while_stmt, do_stmt, for_stmt, part_by, body_turn_by, body_turn, body, block, opened_by, opened, statement, stated}
 use Rattle.c_decl.specs.declared.opening.Opening.{Opening}
 use Rattle.c_decl.specs.declared.opening.Opening.TheVariants as o
 
-bind_same : {X Y : Type 0} (o : Outcome X) (f g : X × List Token → Outcome Y) → ((x : X × List Token) → f x ≡ g x) → (o >>= f) ≡ (o >>= g)
+bind_same : {X Y : Type 0} (o : Outcome X) (f g : X × List Token → Outcome Y)
+    → ((x : X × List Token) → f x ≡ g x) → (o >>= f) ≡ (o >>= g)
 bind_same (Ok x) f g h = h x
 bind_same (Err e) f g h = refl
 
-both_same : {X Y : Type 0} {o p : Outcome X} (f g : X × List Token → Outcome Y) → o ≡ p → ((x : X × List Token) → f x ≡ g x) → (o >>= f) ≡ (p >>= g)
+both_same : {X Y : Type 0} {o p : Outcome X} (f g : X × List Token → Outcome Y) → o ≡ p
+    → ((x : X × List Token) → f x ≡ g x) → (o >>= f) ≡ (p >>= g)
 both_same {o = o} f g e h = bind_same o f g h ∙ ap (λ o. o >>= g) e
 
-turn_same : {A B : Type 0} (f g : A → List Token → Outcome B) → ((x : A) (ts : List Token) → f x ts ≡ g x ts) → (z : (A ⊎ B) × List Token) → turn f z ≡ turn g z
+turn_same : {A B : Type 0} (f g : A → List Token → Outcome B)
+    → ((x : A) (ts : List Token) → f x ts ≡ g x ts) → (z : (A ⊎ B) × List Token)
+    → turn f z ≡ turn g z
 turn_same f g h (inl x, ts) = h x ts
 turn_same f g h (inr y, ts) = refl
 
-turns_same : {A B : Type 0} (step step' : A → List Token → Outcome (A ⊎ B)) → ((x : A) (ts : List Token) → step x ts ≡ step' x ts) → (n : ℕ) (x : A) (ts : List Token) → turns step n x ts ≡ turns step' n x ts
+turns_same : {A B : Type 0} (step step' : A → List Token → Outcome (A ⊎ B))
+    → ((x : A) (ts : List Token) → step x ts ≡ step' x ts) → (n : ℕ) (x : A) (ts : List Token)
+    → turns step n x ts ≡ turns step' n x ts
 turns_same step step' h zero x ts = refl
 turns_same step step' h (suc n) x ts = both_same (turn (turns step n)) (turn (turns step' n)) (h x ts) (turn_same (turns step n) (turns step' n) (turns_same step step' h n))
 
-module _ (p q : ℕ → List Token → Outcome Statement) (top : ℕ) (like : (r : ℕ) (ts : List Token) → r ≤ top → p r ts ≡ q r ts) where
-  otherwise_same : (here : Bool) (x : Expression) (s : Statement) (place : Place) (r : ℕ) (ts : List Token) → r ≤ top → otherwise_by p here x s place r ts ≡ otherwise_by q here x s place r ts
-  otherwise_same true x s place r ts low = bind_same (take r ts) _ _ (λ u. ap (λ o. o >>= λ t. Ok (Fork x s t.0 place, t.1)) (like r u.1 low))
-  otherwise_same false x s place r ts low = refl
+module _ (p q : ℕ → List Token → Outcome Stmt) (top : ℕ) (like : (r : ℕ) (ts : List Token) → r ≤ top → p r ts ≡ q r ts) where
+  else_same : (here : Bool) (x : Expr) (s : Stmt) (place : Place) (r : ℕ) (ts : List Token)
+      → r ≤ top → else_part_by p here x s place r ts ≡ else_part_by q here x s place r ts
+  else_same true x s place r ts low = bind_same (take r ts) _ _ (λ u. ap (λ o. o >>= λ t. Ok (stmt.IfElse x s t.0 place, t.1)) (like r u.1 low))
+  else_same false x s place r ts low = refl
 
-  branch_same : (r : ℕ) (ts : List Token) → r ≤ top → branch p r ts ≡ branch q r ts
-  branch_same r ts low = bind_same (take r ts) _ _ (λ u. bind_same (test r u.1) _ _ (λ x.
-      both_same (λ s. otherwise p x.0 s.0 u.0.place r s.1) (λ s. otherwise q x.0 s.0 u.0.place r s.1) (like r x.1 low) (λ s. otherwise_same (is_next (word (codes "else")) s.1) x.0 s.0 u.0.place r s.1 low)))
+  if_same : (r : ℕ) (ts : List Token) → r ≤ top → if_stmt p r ts ≡ if_stmt q r ts
+  if_same r ts low = bind_same (take r ts) _ _ (λ u. bind_same (test r u.1) _ _ (λ x.
+      both_same (λ s. else_part p x.0 s.0 u.0.place r s.1) (λ s. else_part q x.0 s.0 u.0.place r s.1) (like r x.1 low) (λ s. else_same (is_next (word (codes "else")) s.1) x.0 s.0 u.0.place r s.1 low)))
 
-  repeated_same : (r : ℕ) (ts : List Token) → r ≤ top → repeated p r ts ≡ repeated q r ts
-  repeated_same r ts low = bind_same (take r ts) _ _ (λ u. bind_same (test r u.1) _ _ (λ x. ap (λ o. o >>= λ s. Ok (Loop x.0 s.0 u.0.place, s.1)) (like r x.1 low)))
+  while_same : (r : ℕ) (ts : List Token) → r ≤ top → while_stmt p r ts ≡ while_stmt q r ts
+  while_same r ts low = bind_same (take r ts) _ _ (λ u. bind_same (test r u.1) _ _ (λ x. ap (λ o. o >>= λ s. Ok (stmt.While x.0 s.0 u.0.place, s.1)) (like r x.1 low)))
 
-  once_same : (r : ℕ) (ts : List Token) → r ≤ top → done_once p r ts ≡ done_once q r ts
-  once_same r ts low = bind_same (take r ts) _ _ (λ u. ap
-      (λ o. o >>= λ s. expect (word (codes "while")) r s.1 >>= λ w. test r w.1 >>= λ x. expect (sign (codes ";")) r x.1 >>= λ e. Ok (LoopOnce s.0 x.0 u.0.place, e.1))
+  do_same : (r : ℕ) (ts : List Token) → r ≤ top → do_stmt p r ts ≡ do_stmt q r ts
+  do_same r ts low = bind_same (take r ts) _ _ (λ u. ap
+      (λ o. o >>= λ s. expect (word (codes "while")) r s.1 >>= λ w. test r w.1 >>= λ x. expect (sign (codes ";")) r x.1 >>= λ e. Ok (stmt.Do s.0 x.0 u.0.place, e.1))
       (like r u.1 low))
 
-  counted_same : (r : ℕ) (ts : List Token) → r ≤ top → counted p r ts ≡ counted q r ts
-  counted_same r ts low = bind_same (take r ts) _ _ (λ u. bind_same (expect (sign (codes "(")) r u.1) _ _ (λ b. bind_same (beginning r b.1) _ _ (λ f.
+  for_same : (r : ℕ) (ts : List Token) → r ≤ top → for_stmt p r ts ≡ for_stmt q r ts
+  for_same r ts low = bind_same (take r ts) _ _ (λ u. bind_same (expect (sign (codes "(")) r u.1) _ _ (λ b. bind_same (beginning r b.1) _ _ (λ f.
       bind_same (optional (sign (codes ";")) r f.1) _ _ (λ x. bind_same (optional (sign (codes ")")) r x.1) _ _ (λ y.
-      ap (λ o. o >>= λ s. Ok (LoopFrom f.0 x.0 y.0 s.0 u.0.place, s.1)) (like r y.1 low))))))
+      ap (λ o. o >>= λ s. Ok (stmt.For f.0 x.0 y.0 s.0 u.0.place, s.1)) (like r y.1 low))))))
 
-  part_same : (declares : Bool) (r : ℕ) (ts : List Token) → r ≤ top → part_by p declares r ts ≡ part_by q declares r ts
+  part_same : (declares : Bool) (r : ℕ) (ts : List Token) → r ≤ top
+      → part_by p declares r ts ≡ part_by q declares r ts
   part_same true r ts low = refl
   part_same false r ts low = like r ts low
 
-  turn_of_body_same : (closed : Bool) (r : ℕ) (found : List Statement) (ts : List Token) → r ≤ top → body_turn_by p closed r found ts ≡ body_turn_by q closed r found ts
+  turn_of_body_same : (closed : Bool) (r : ℕ) (found : List Stmt) (ts : List Token) → r ≤ top
+      → body_turn_by p closed r found ts ≡ body_turn_by q closed r found ts
   turn_of_body_same true r found ts low = refl
   turn_of_body_same false r found ts low = ap (λ o. o >>= λ s. Ok (inl (found ++ s.0 ∷ []), s.1)) (part_same (is_base (kind_of ts)) r ts low)
 
@@ -63,15 +74,16 @@ module _ (p q : ℕ → List Token → Outcome Statement) (top : ℕ) (like : (r
   body_same r ts low = turns_same (body_turn p r) (body_turn q r) (λ found us. turn_of_body_same (is_next (sign (codes "}")) us) r found us low) (length ts) [] ts
 
   block_same : (r : ℕ) (ts : List Token) → r ≤ top → block p r ts ≡ block q r ts
-  block_same r ts low = bind_same (take r ts) _ _ (λ u. ap (λ o. o >>= λ ss. Ok (Compound (statement_row ss.0) u.0.place, ss.1)) (body_same r u.1 low))
+  block_same r ts low = bind_same (take r ts) _ _ (λ u. ap (λ o. o >>= λ ss. Ok (stmt.Block (stmts_list ss.0) u.0.place, ss.1)) (body_same r u.1 low))
 
-  form_same : (which : Option Opening) (r : ℕ) (ts : List Token) → r ≤ top → opened_by p which r ts ≡ opened_by q which r ts
+  form_same : (which : Option Opening) (r : ℕ) (ts : List Token) → r ≤ top
+      → opened_by p which r ts ≡ opened_by q which r ts
   form_same (Some o.Empty) r ts low = refl
   form_same (Some o.Block) r ts low = block_same r ts low
-  form_same (Some o.If) r ts low = branch_same r ts low
-  form_same (Some o.While) r ts low = repeated_same r ts low
-  form_same (Some o.Do) r ts low = once_same r ts low
-  form_same (Some o.For) r ts low = counted_same r ts low
+  form_same (Some o.If) r ts low = if_same r ts low
+  form_same (Some o.While) r ts low = while_same r ts low
+  form_same (Some o.Do) r ts low = do_same r ts low
+  form_same (Some o.For) r ts low = for_same r ts low
   form_same (Some o.Return) r ts low = refl
   form_same (Some o.Break) r ts low = refl
   form_same (Some o.Continue) r ts low = refl
@@ -82,7 +94,8 @@ module _ (p q : ℕ → List Token → Outcome Statement) (top : ℕ) (like : (r
   unfolding opened
   opened_same r ts low = form_same (opening_of (kind_of ts)) r ts low
 
-pub nested_same : (f g r : ℕ) (ts : List Token) → r ≤ f → r ≤ g → statement f r ts ≡ statement g r ts
+pub nested_same : (f g r : ℕ) (ts : List Token) → r ≤ f → r ≤ g
+    → statement f r ts ≡ statement g r ts
 unfolding statement
 nested_same zero zero r ts a b = refl
 nested_same zero (suc g) zero ts a b = refl

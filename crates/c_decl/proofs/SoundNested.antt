@@ -4,18 +4,19 @@ use Rattle.std.specs.Prelude.{if◌then◌else◌, codes}
 use Rattle.c_token.specs.declared.token.Token.{Token}
 use Rattle.c_token.specs.declared.token.Kind.{Kind}
 use Rattle.c_tree.specs.declared.place.Place.{Place}
-use Rattle.c_tree.specs.Syntax.{Statement, Nothing}
+use Rattle.c_tree.specs.Stmt.{Stmt}
+use Rattle.c_tree.specs.Stmt as stmt
 use Rattle.c_expr.specs.declared.fault.ParseFault.TheVariants.{Unexpected, TooDeep}
 use Rattle.c_expr.specs.Leveled.{Leveled, at}
 use Rattle.c_expr.specs.Spelled.{sign}
 use Rattle.c_expr.specs.Next.{kind_of, place_of, nowhere, begins}
 use Rattle.c_expr.proofs.Binds.{found}
 use Rattle.c_expr.proofs.Law.{Lawful, Some_of, Looks, weaken}
-use Rattle.c_expr.proofs.Fronts.{begin_unary, unary_assign, some_assign, narrow_both}
-use Rattle.c_decl.specs.Words.{word}
-use Rattle.c_decl.specs.Statements as g
-use Rattle.c_decl.specs.Statements.{IsMarker, IsStatement}
-use Rattle.c_decl.specs.StatementReading.{openings, opening_of, begins_statement_by, begins_statement, opened, statement}
+use Rattle.c_expr.proofs.ExpressionFronts.{begin_unary, unary_assign, some_assign, narrow_both}
+use Rattle.c_decl.specs.GrammarWords.{word}
+use Rattle.c_decl.specs.StatementGrammar as g
+use Rattle.c_decl.specs.StatementGrammar.{IsMarker, IsStatement}
+use Rattle.c_decl.specs.private.StatementReading.{openings, opening_of, begins_statement_by, begins_statement, opened, statement}
 use Rattle.c_decl.specs.declared.opening.Opening.{Opening}
 use Rattle.c_decl.proofs.SoundMarkers.{begin_numbered, begin_post}
 use Rattle.c_decl.proofs.SoundRefused.{statement_refuses}
@@ -26,16 +27,19 @@ use Rattle.c_decl.proofs.SoundStatements.{opened_law}
 abbrev Begun : ℕ → Place → Kind → Type 0
 Begun l p kind = (high : ℕ) × (l < high) × Some_of (λ b s us. ReadStatement l (at high kind p ∷ b) s us)
 
-begun : {o : Bool} (l : ℕ) (p : Place) (kind : Kind) (b : List Leveled) (s : Statement) → IsStatement o l (at (suc l) kind p ∷ b) s → Begun l p kind
+begun : {o : Bool} (l : ℕ) (p : Place) (kind : Kind) (b : List Leveled) (s : Stmt)
+    → IsStatement o l (at (suc l) kind p ∷ b) s → Begun l p kind
 begun {o = o} l p kind b s h = (suc l, omega arith, record { spelling = b; value = s; holds = record { open_if = o; spelled = h; no_else = λ e. cc } })
 
-marked : (l : ℕ) (p : Place) (kind : Kind) → Some_of (λ b y us. IsMarker (suc l) (at (suc l) kind p ∷ b) y) → Begun l p kind
+marked : (l : ℕ) (p : Place) (kind : Kind)
+    → Some_of (λ b y us. IsMarker (suc l) (at (suc l) kind p ∷ b) y) → Begun l p kind
 marked l p kind w = begun l p kind w.spelling _ (g.marker w.holds)
 
-begin_opening : (l : ℕ) (p : Place) (kind : Kind) (which : Opening) → opening_of kind ≡ Some which → Begun l p kind
+begin_opening : (l : ℕ) (p : Place) (kind : Kind) (which : Opening) → opening_of kind ≡ Some which
+    → Begun l p kind
 begin_opening l p kind which e =
     let some = (some_assign (suc l)).holds in
-    let body : IsStatement false (suc l) (at (suc (suc l)) (sign (codes ";")) nowhere ∷ []) (Nothing nowhere) = g.empty in
+    let body : IsStatement false (suc l) (at (suc (suc l)) (sign (codes ";")) nowhere ∷ []) (stmt.Empty nowhere) = g.empty in
     let empty = begun l p _ _ _ (g.empty {l = l} {p = p}) in
     let block = begun l p _ _ _ (g.block (g.braces {l = suc l} p nowhere g.none)) in
     let branch = begun l p _ _ _ (g.if nowhere nowhere some body) in
@@ -54,14 +58,16 @@ begin_opening l p kind which e =
 begin_statement : (l : ℕ) (p : Place) (kind : Kind) → begins_statement kind ≡ true → Begun l p kind
 begin_statement l p kind e = go (opening_of kind) refl e
   where
-    go : (which : Option Opening) → opening_of kind ≡ which → begins_statement_by which (begins kind) ≡ true → Begun l p kind
+    go : (which : Option Opening) → opening_of kind ≡ which
+        → begins_statement_by which (begins kind) ≡ true → Begun l p kind
     go (Some which) is e = begin_opening l p kind which is
     go None is e =
         let w = begin_unary (suc (suc (suc l))) p kind e in
         (suc (suc (suc (suc l))), omega arith, record { spelling = _; value = _; holds = closed [] (g.expression nowhere (unary_assign (suc l) _ _ w.holds)) })
 
 -- where no statement may be opened
-start_law : (I : Type 0) (m : ℕ) (f' : I → ℕ) (l : ℕ) (r' : I → ℕ) (ts : List Token) (b : Bool) → begins_statement (kind_of ts) ≡ b → 0 ≡ m - l
+start_law : (I : Type 0) (m : ℕ) (f' : I → ℕ) (l : ℕ) (r' : I → ℕ) (ts : List Token) (b : Bool)
+    → begins_statement (kind_of ts) ≡ b → 0 ≡ m - l
     → Lawful m (ReadStatement l) (λ i. statement (f' i) (r' i)) ts (Err (if b then TooDeep (place_of ts) else Unexpected (place_of ts)))
 start_law I m f' l r' [] true e room = absurd (let e' : false ≡ true = e in cc)
 start_law I m f' l r' (t ∷ ts) true e room =
@@ -83,7 +89,8 @@ start_law I m f' l r' (t ∷ ts) true e room =
 start_law I m f' l r' ts false e room =
     record { law = record { read = []; rest = ts; splits = refl; place = refl; low = tt; more = _; value = _; holds = closed {l = l} [] (g.empty {p = nowhere}); again = λ i. go i ts e } }
   where
-    go : (i : I) (ts : List Token) → begins_statement (kind_of ts) ≡ false → (b : List Token) → Looks ts b → statement (f' i) (r' i) b ≡ Err (Unexpected (place_of b))
+    go : (i : I) (ts : List Token) → begins_statement (kind_of ts) ≡ false → (b : List Token)
+        → Looks ts b → statement (f' i) (r' i) b ≡ Err (Unexpected (place_of b))
     go i ts e [] l = statement_refuses (f' i) (r' i) [] refl
     go i [] e (y ∷ b) l = absurd l
     go i (t ∷ ts) e (y ∷ b) l = statement_refuses (f' i) (r' i) (y ∷ b) (ap (λ (u : Token). begins_statement u.kind) (sym l) ∙ e)
@@ -91,7 +98,8 @@ start_law I m f' l r' ts false e room =
 abbrev Nested : (I : Type 0) → ℕ → (I → ℕ) → Type 0
 Nested I f f' = (m : ℕ) → StatementLaw I m f f'
 
-statement_opens : (f r : ℕ) (b : List Token) (s : ℕ) → suc s ≤ r → r ≤ f → opened (statement (f - 1)) (r - 1) b ≡ statement f r b
+statement_opens : (f r : ℕ) (b : List Token) (s : ℕ) → suc s ≤ r → r ≤ f
+    → opened (statement (f - 1)) (r - 1) b ≡ statement f r b
 unfolding statement
 statement_opens zero r b s some deep = absurd (omega arith)
 statement_opens (suc f) zero b s some deep = absurd (omega arith)
@@ -100,7 +108,8 @@ statement_opens (suc f) (suc r) b s some deep =
     let two : suc r - 1 ≡ r = omega arith in
     ap (λ f. opened (statement f) (suc r - 1) b) one ∙ ap (λ r. opened (statement f) r b) two
 
-nested_step : (I : Type 0) (f : ℕ) (f' : I → ℕ) → Nested I f (λ i. f' i - 1) → ((i : I) → Nested (Unit {0}) (f' i - 1) (λ u. f' i - 1)) → Nested I (suc f) f'
+nested_step : (I : Type 0) (f : ℕ) (f' : I → ℕ) → Nested I f (λ i. f' i - 1)
+    → ((i : I) → Nested (Unit {0}) (f' i - 1) (λ u. f' i - 1)) → Nested I (suc f) f'
 unfolding statement
 nested_step I f f' law single m l zero r' ts room deep wide = start_law I m f' l r' ts (begins_statement (kind_of ts)) refl room
 nested_step I f f' law single m l (suc r) r' ts room deep wide =

@@ -5,27 +5,29 @@ use Rattle.c_token.specs.declared.token.Token.{Token}
 use Rattle.c_token.specs.declared.token.Kind.{Kind}
 use Rattle.c_token.specs.declared.token.Kind.TheVariants as k
 use Rattle.c_tree.specs.declared.place.Place.{Place}
-use Rattle.c_tree.specs.Syntax.{Shape, Parameter}
+use Rattle.c_tree.specs.Ty.{Ty}
+use Rattle.c_tree.specs.Fun.{Param}
 use Rattle.c_expr.specs.Leveled.{Leveled, at}
 use Rattle.c_expr.specs.Spelled.{sign}
 use Rattle.c_expr.specs.Grammar as e
 use Rattle.c_expr.specs.Grammar.{IsBase}
 use Rattle.c_expr.specs.Next.{◌>>=◌, kind_of, place_of, nowhere, base}
 use Rattle.c_expr.proofs.Law.{Lawful, Some_of, bind_law, weaken, pure_law, ended, stop_law, take_law, place_law, plain}
-use Rattle.c_expr.proofs.Turns.{Turn}
+use Rattle.c_expr.proofs.ParserTurns.{Turn}
 use Rattle.c_expr.proofs.Sound.{longer}
-use Rattle.c_expr.proofs.Fronts.{expect_law, base_law}
-use Rattle.c_decl.specs.Words.{word}
+use Rattle.c_expr.proofs.ExpressionFronts.{expect_law, base_law}
+use Rattle.c_decl.specs.GrammarWords.{word}
 use Rattle.c_decl.specs.Declarations as g
 use Rattle.c_decl.specs.Declarations.{IsStars, IsParam, IsParamList, IsParams}
-use Rattle.c_decl.specs.Reading.{is_next, stars_from, brackets_by, brackets, own_name_by, own_name, behind_stars, parameter, after_parameter, parameter_turn, parameter_list, parameters_by, parameters}
+use Rattle.c_decl.specs.private.DeclarationReading.{is_next, stars_from, brackets_by, brackets, own_name_by, own_name, behind_stars, parameter, after_parameter, parameter_turn, parameter_list, parameters_by, parameters}
 use Rattle.c_decl.proofs.SoundParts.{Sound, chosen, turned, FirstAt, front_law, base_some}
 use Rattle.c_decl.proofs.SoundDeclarators.{moved, grouped_item, stars_law}
 
 -- `[` and `]`, if they stand there
 data IsBrackets (l : ℕ) : List Leveled → Bool → Type 0 where
   none : IsBrackets l [] false
-  some : (p q : Place) → IsBrackets l (at l (sign (codes "[")) p ∷ (at (suc l) (sign (codes "]")) q ∷ [])) true
+  some : (p q : Place) → IsBrackets l
+      (at l (sign (codes "[")) p ∷ (at (suc l) (sign (codes "]")) q ∷ [])) true
 
 narrower : {r r' : ℕ} → r ≤ r' → r - 1 ≤ r' - 1
 narrower h = omega arith
@@ -40,15 +42,19 @@ data IsOwnName (l : ℕ) (place : Place) : List Leveled → Option (List ℕ) ×
   unnamed : IsOwnName l place [] (None, place)
   named : {n : List ℕ} (p : Place) → IsOwnName l place (at l (k.Name n) p ∷ []) (Some n, p)
 
-own_name_by_law : (I : Type 0) (m : ℕ) (place : Place) (l r : ℕ) (r' : I → ℕ) (kind : Kind) (ts : List Token) → r ≡ m - l → ((i : I) → r ≤ r' i) → kind_of ts ≡ kind
+own_name_by_law : (I : Type 0) (m : ℕ) (place : Place) (l r : ℕ) (r' : I → ℕ) (kind : Kind)
+    (ts : List Token) → r ≡ m - l → ((i : I) → r ≤ r' i) → kind_of ts ≡ kind
     → Lawful m (plain (IsOwnName l place)) (λ i. own_name place (r' i)) ts (own_name_by kind place r ts)
 own_name_by_law I m place l r r' (k.Name n) ts room wide is = take_law (λ i. own_name place (r' i)) _ _ m l r r' (k.Name n) ts room wide is (λ e. cc) (λ i p b. refl) (λ p rest. pure_law (Some n, p) rest (named p))
 own_name_by_law I m place l r r' kind ts room wide is = stop_law (λ i c b. own_name_by c place (r' i) b) kind ts (None, place) is unnamed (λ i b. refl) (λ i. refl)
 
-own_name_law : (I : Type 0) (m : ℕ) (place : Place) → Sound I m (λ l. plain (IsOwnName l place)) (own_name place)
+own_name_law : (I : Type 0) (m : ℕ) (place : Place)
+    → Sound I m (λ l. plain (IsOwnName l place)) (own_name place)
 own_name_law I m place l r r' ts room wide = own_name_by_law I m place l r r' (kind_of ts) ts room wide refl
 
-param_of : (l n : ℕ) (base : Shape) (place : Place) (a b c d : List Leveled) (own : Option (List ℕ) × Place) (array : Bool) → IsBase l a base → FirstAt place a → IsStars l n b → IsOwnName (l + n) place c own → IsBrackets (l + n) d array
+param_of : (l n : ℕ) (base : Ty) (place : Place) (a b c d : List Leveled)
+    (own : Option (List ℕ) × Place) (array : Bool) → IsBase l a base → FirstAt place a
+    → IsStars l n b → IsOwnName (l + n) place c own → IsBrackets (l + n) d array
     → IsParam l (a ++ (b ++ (c ++ d))) (record { base = base; stars = n; name = own.0; place = own.1; array = array })
 param_of l n base place [] b c d own array h at_first i j w = absurd at_first
 param_of l n base place (first ∷ a) b _ _ _ _ h at_first i unnamed none =
@@ -73,14 +79,18 @@ parameter_law I m l r r' ts room wide =
     (λ i. refl)
 
 -- what is left of parameters, with the closing parenthesis
-data ParametersLeft (l : ℕ) (found : List Parameter) : List Leveled → List Parameter → Type 0 where
-  left : {c : List Leveled} {zs : List Parameter} (q : Place) → IsParamList l c zs → ParametersLeft l found (c ++ at l (sign (codes ")")) q ∷ []) (found ++ zs)
+data ParametersLeft (l : ℕ) (found : List Param) : List Leveled → List Param → Type 0 where
+  left : {c : List Leveled} {zs : List Param} (q : Place) → IsParamList l c zs
+      → ParametersLeft l found (c ++ at l (sign (codes ")")) q ∷ []) (found ++ zs)
 
-parameter_goes : (l : ℕ) (p : Place) (found : List Parameter) (x : Parameter) (a c : List Leveled) (y : List Parameter) → IsParam l a x → ParametersLeft l (found ++ x ∷ []) c y → ParametersLeft l found ((a ++ at l (sign (codes ",")) p ∷ []) ++ c) y
+parameter_goes : (l : ℕ) (p : Place) (found : List Param) (x : Param) (a c : List Leveled)
+    (y : List Param) → IsParam l a x → ParametersLeft l (found ++ x ∷ []) c y
+    → ParametersLeft l found ((a ++ at l (sign (codes ",")) p ∷ []) ++ c) y
 parameter_goes l p found x a _ _ h (left {c = c} {zs = zs} q i) =
     moved (ParametersLeft l found) found x zs (grouped_item a (at l (sign (codes ",")) p) c (at l (sign (codes ")")) q ∷ [])) (left q (g.more p h i))
 
-parameter_turn_law : (I : Type 0) (m l r : ℕ) (r' : I → ℕ) (found : List Parameter) (ts : List Token) → r ≡ m - l → ((i : I) → r ≤ r' i)
+parameter_turn_law : (I : Type 0) (m l r : ℕ) (r' : I → ℕ) (found : List Param) (ts : List Token)
+    → r ≡ m - l → ((i : I) → r ≤ r' i)
     → Lawful m (Turn (λ found. plain (ParametersLeft l found)) found) (λ i. parameter_turn (r' i) found) ts (parameter_turn r found ts)
 parameter_turn_law I m l r r' found ts room wide =
     bind_law (λ i x. after_parameter (is_next (sign (codes ",")) x.1) (r' i) (found ++ x.0 ∷ []) x.1) (λ x. after_parameter (is_next (sign (codes ",")) x.1) r (found ++ x.0 ∷ []) x.1) (parameter_law I m l r r' ts room wide) (λ x rest a h cut.
@@ -92,17 +102,20 @@ parameter_turn_law I m l r r' found ts room wide =
 some_parameter : (l : ℕ) → Some_of (plain (IsParam l))
 some_parameter l = record { spelling = _; value = _; holds = g.named {name = []} nowhere (e.unsigned {l = l} {p = nowhere}) g.none }
 
-parameter_list_law : (I : Type 0) (m : ℕ) → Sound I m (λ l. plain (ParametersLeft l [])) parameter_list
+parameter_list_law : (I : Type 0) (m : ℕ)
+    → Sound I m (λ l. plain (ParametersLeft l [])) parameter_list
 parameter_list_law I m l r r' ts room wide =
     turned (λ found. plain (ParametersLeft l found)) (λ found. record { spelling = _; value = _; holds = left nowhere (g.one (some_parameter l).holds) }) (λ i. parameter_turn (r' i)) (parameter_turn r) (λ i. r' i + l) [] ts (λ i found. refl)
     (λ i found us. parameter_turn_law (Unit {0}) (r' i + l) l (r' i) (λ u. r' i) found us (omega arith) (λ u. omega arith))
     (λ found us. parameter_turn_law I m l r r' found us room wide)
 
 -- parameters, and their closing parenthesis
-pub data ParamsThrough (l : ℕ) : List Leveled → List Parameter → Type 0 where
-  params : {a : List Leveled} {xs : List Parameter} (q : Place) → IsParams l a xs → ParamsThrough l (a ++ at l (sign (codes ")")) q ∷ []) xs
+pub data ParamsThrough (l : ℕ) : List Leveled → List Param → Type 0 where
+  params : {a : List Leveled} {xs : List Param} (q : Place) → IsParams l a xs
+      → ParamsThrough l (a ++ at l (sign (codes ")")) q ∷ []) xs
 
-parameters_end : (l : ℕ) (a : List Leveled) (xs : List Parameter) → ParametersLeft l [] a xs → ParamsThrough l a xs
+parameters_end : (l : ℕ) (a : List Leveled) (xs : List Param) → ParametersLeft l [] a xs
+    → ParamsThrough l a xs
 parameters_end l _ _ (left q h) = params q (g.some h)
 
 pub parameters_law : (I : Type 0) (m : ℕ) → Sound I m (λ l. plain (ParamsThrough l)) parameters

@@ -4,17 +4,17 @@ use Rattle.c_token.specs.declared.token.Token.{Token}
 use Rattle.c_token.specs.declared.token.Kind.{Kind}
 use Rattle.c_token.specs.declared.token.Kind.TheVariants as k
 use Rattle.c_tree.specs.declared.place.Place.{Place}
-use Rattle.c_tree.specs.Syntax.{Part}
+use Rattle.c_tree.specs.Item.{Item}
 use Rattle.c_expr.specs.declared.fault.ParseFault.TheVariants.{Unexpected, TooDeep, OutOfMemory}
 use Rattle.c_expr.specs.Leveled.{Leveled, at, tokens_of, AreBelow}
 use Rattle.c_expr.specs.Next.{Outcome, ◌>>=◌, kind_of, place_of, nowhere, refuse, take}
-use Rattle.c_expr.specs.Reading.{turn, turns}
-use Rattle.c_expr.proofs.Exact.{below_of}
+use Rattle.c_expr.specs.private.ExpressionReading.{turn, turns}
+use Rattle.c_expr.proofs.ExactExpressions.{below_of}
 use Rattle.c_expr.proofs.Law.{AreLow, Looks, Law, plain, weaken, goes, whole, after, take_some}
-use Rattle.c_expr.proofs.Turns.{canon, turns_none, tokens_length}
+use Rattle.c_expr.proofs.ParserTurns.{canon, turns_none, tokens_length}
 use Rattle.c_decl.specs.Units as g
 use Rattle.c_decl.specs.Units.{IsItem, IsItems, IsUnit}
-use Rattle.c_decl.specs.UnitReading.{item, is_end, unit_turn_by, unit_turn, unit}
+use Rattle.c_decl.specs.private.UnitReading.{item, is_end, unit_turn_by, unit_turn, unit}
 use Rattle.c_decl.proofs.SoundDeclarators.{moved}
 use Rattle.c_decl.proofs.SoundItems.{item_law, item_some}
 
@@ -26,7 +26,8 @@ pub record ReadsWhole {X I : Type 0} (m : ℕ) (P : List Leveled → X → Type 
   pub holds : P read x
   pub again : (i : I) (b : List Token) → Looks rest b → q i (tokens_of read ++ b) ≡ Ok (x, b)
 
-abbrev pub WholeLaw : {X I : Type 0} → ℕ → (List Leveled → X → Type 0) → (I → List Token → Outcome X) → List Token → Outcome X → Type 0
+abbrev pub WholeLaw : {X I : Type 0} → ℕ → (List Leveled → X → Type 0)
+    → (I → List Token → Outcome X) → List Token → Outcome X → Type 0
 WholeLaw m P q ts (Ok x) = ReadsWhole m P q ts x.0 x.1
 WholeLaw m P q ts (Err e) = Law m (plain P) q ts (Err e)
 
@@ -34,12 +35,16 @@ below_append : (m : ℕ) (a b : List Leveled) → AreBelow m a → AreBelow m b 
 below_append m [] b h i = i
 below_append m (x ∷ a) b h i = (h.0, below_append m a b h.1 i)
 
-whole_weaken : {X I : Type 0} (m : ℕ) (P Q : List Leveled → X → Type 0) (q : I → List Token → Outcome X) (ts : List Token) (o : Outcome X) → ((b : List Leveled) (y : X) → P b y → Q b y) → WholeLaw m P q ts o → WholeLaw m Q q ts o
+whole_weaken : {X I : Type 0} (m : ℕ) (P Q : List Leveled → X → Type 0)
+    (q : I → List Token → Outcome X) (ts : List Token) (o : Outcome X)
+    → ((b : List Leveled) (y : X) → P b y → Q b y) → WholeLaw m P q ts o → WholeLaw m Q q ts o
 whole_weaken m P Q q ts (Ok x) into h = record { read = h.read; splits = h.splits; low = h.low; holds = into h.read x.0 h.holds; again = h.again }
 whole_weaken m P Q q ts (Err e) into h = (weaken {m = m} {P = plain P} (plain Q) {q = q} q {ts = ts} {o = Err e} (λ b y us. into b y) (λ i b. refl) (record { law = h })).law
 
 -- behind what was read before
-whole_after : {X I : Type 0} (m : ℕ) (P : List Leveled → X → Type 0) (q g : I → List Token → Outcome X) (a : List Leveled) (ts rest : List Token) → ts ≡ tokens_of a ++ rest → AreLow m a
+whole_after : {X I : Type 0} (m : ℕ) (P : List Leveled → X → Type 0)
+    (q g : I → List Token → Outcome X) (a : List Leveled) (ts rest : List Token)
+    → ts ≡ tokens_of a ++ rest → AreLow m a
     → ((i : I) (b : List Token) → Looks rest b → q i (tokens_of a ++ b) ≡ g i b) → (o : Outcome X) → WholeLaw m (λ b y. P (a ++ b) y) g rest o → WholeLaw m P q ts o
 whole_after m P q g a ts rest splits low onward (Ok x) h = record {
   read = a ++ h.read;
@@ -51,17 +56,20 @@ whole_after m P q g a ts rest splits low onward (Ok x) h = record {
 whole_after m P q g a ts rest splits low onward (Err e) h = after m (plain P) q g a ts rest splits low onward (Err e) h
 
 -- what is left of a text, with its end
-data UnitLeft (found : List Part) : List Leveled → List Part → Type 0 where
-  left : {c : List Leveled} {xs : List Part} (p : Place) → IsItems zero c xs → UnitLeft found (c ++ at zero k.End p ∷ []) (found ++ xs)
+data UnitLeft (found : List Item) : List Leveled → List Item → Type 0 where
+  left : {c : List Leveled} {xs : List Item} (p : Place) → IsItems zero c xs
+      → UnitLeft found (c ++ at zero k.End p ∷ []) (found ++ xs)
 
-item_goes : (found : List Part) (x : Part) (a c : List Leveled) (y : List Part) → IsItem zero a x → UnitLeft (found ++ x ∷ []) c y → UnitLeft found (a ++ c) y
+item_goes : (found : List Item) (x : Item) (a c : List Leveled) (y : List Item) → IsItem zero a x
+    → UnitLeft (found ++ x ∷ []) c y → UnitLeft found (a ++ c) y
 item_goes found x a _ _ h (left {c = c} {xs = xs} p i) = moved (UnitLeft found) found x xs (append_assoc a c (at zero k.End p ∷ [])) (left p (g.more h i))
 
-none_left : (found : List Part) (p : Place) → UnitLeft found (at zero k.End p ∷ []) found
+none_left : (found : List Item) (p : Place) → UnitLeft found (at zero k.End p ∷ []) found
 none_left found p = subst (λ xs. UnitLeft found (at zero k.End p ∷ []) xs) (append-nil found) (left p g.none)
 
 -- one item, and the end
-one_left : (found : List Part) (a : List Leveled) (x : Part) → IsItem zero a x → UnitLeft found (a ++ at zero k.End nowhere ∷ []) (found ++ x ∷ [])
+one_left : (found : List Item) (a : List Leveled) (x : Item) → IsItem zero a x
+    → UnitLeft found (a ++ at zero k.End nowhere ∷ []) (found ++ x ∷ [])
 one_left found a x h = item_goes found x a (at zero k.End nowhere ∷ []) (found ++ x ∷ []) h (none_left (found ++ x ∷ []) nowhere)
 
 end_is : (kind : Kind) → is_end kind ≡ true → kind ≡ k.End
@@ -69,44 +77,54 @@ end_is k.End e = refl
 end_is _ e = cc
 
 -- Each turn that is not the last reads an item.
-end_ends : (o : Outcome Token) (found y : List Part) (us : List Token) → ◌≡◌ {A = Outcome (List Part ⊎ List Part)} (o >>= λ c. Ok (inr found, c.1)) (Ok (inl y, us)) → ⊥
+end_ends : (o : Outcome Token) (found y : List Item) (us : List Token)
+    → ◌≡◌ {A = Outcome (List Item ⊎ List Item)} (o >>= λ c. Ok (inr found, c.1)) (Ok (inl y, us))
+    → ⊥
 end_ends (Err e) found y us h = cc
 end_ends (Ok c) found y us h =
-    let pairs : ◌≡◌ {A = (List Part ⊎ List Part) × List Token} (inr found, c.1) (inl y, us) = cc in
-    let like : ◌≡◌ {A = List Part ⊎ List Part} (inr found) (inl y) = ap (λ (p : (List Part ⊎ List Part) × List Token). p.0) pairs in cc
+    let pairs : ◌≡◌ {A = (List Item ⊎ List Item) × List Token} (inr found, c.1) (inl y, us) = cc in
+    let like : ◌≡◌ {A = List Item ⊎ List Item} (inr found) (inl y) = ap (λ (p : (List Item ⊎ List Item) × List Token). p.0) pairs in cc
 
-item_shortens : (s : ℕ) (found y : List Part) (ts us : List Token) (o : Outcome Part) → Law s (plain (IsItem zero)) (λ (u : Unit {0}). item s) ts o
-    → ◌≡◌ {A = Outcome (List Part ⊎ List Part)} (o >>= λ x. Ok (inl (found ++ x.0 ∷ []), x.1)) (Ok (inl y, us)) → length us < length ts
+item_shortens : (s : ℕ) (found y : List Item) (ts us : List Token) (o : Outcome Item)
+    → Law s (plain (IsItem zero)) (λ (u : Unit {0}). item s) ts o
+    → ◌≡◌ {A = Outcome (List Item ⊎ List Item)} (o >>= λ x. Ok (inl (found ++ x.0 ∷ []), x.1)) (Ok (inl y, us)) → length us < length ts
 item_shortens s found y ts us (Ok x) h e =
-    let pairs : ◌≡◌ {A = (List Part ⊎ List Part) × List Token} (inl (found ++ x.0 ∷ []), x.1) (inl y, us) = cc in
-    let like : x.1 ≡ us = ap (λ (p : (List Part ⊎ List Part) × List Token). p.1) pairs in
+    let pairs : ◌≡◌ {A = (List Item ⊎ List Item) × List Token} (inl (found ++ x.0 ∷ []), x.1) (inl y, us) = cc in
+    let like : x.1 ≡ us = ap (λ (p : (List Item ⊎ List Item) × List Token). p.1) pairs in
     let some = item_some h.holds in omega (arith, ap length like, ap length h.splits, length-append (tokens_of h.read) x.1, tokens_length h.read)
 item_shortens s found y ts us (Err f) h e = cc
 
-unit_shorter : (s : ℕ) (found y : List Part) (ts us : List Token) → unit_turn s found ts ≡ Ok (inl y, us) → length us < length ts
+unit_shorter : (s : ℕ) (found y : List Item) (ts us : List Token)
+    → unit_turn s found ts ≡ Ok (inl y, us) → length us < length ts
 unit_shorter s found y ts us e = go (is_end (kind_of ts)) e
   where
     go : (c : Bool) → unit_turn_by c s found ts ≡ Ok (inl y, us) → length us < length ts
     go true e = absurd (end_ends (take s ts) found y us e)
     go false e = item_shortens s found y ts us (item s ts) (item_law (Unit {0}) s zero s (λ u. s) ts (omega arith) (λ u. omega arith)).law e
 
-abbrev onward : ℕ → (List Part ⊎ List Part) × List Token → Outcome (List Part)
+abbrev onward : ℕ → (List Item ⊎ List Item) × List Token → Outcome (List Item)
 onward s = turn (λ y us. turns (unit_turn s) (length us) y us)
 
-abbrev with_item : List Part → Part × List Token → Outcome (List Part ⊎ List Part)
+abbrev with_item : List Item → Item × List Token → Outcome (List Item ⊎ List Item)
 with_item found x = Ok (inl (found ++ x.0 ∷ []), x.1)
 
-turns_of : (s : ℕ) (found : List Part) (b : List Token) → turns (unit_turn s) (length b) found b ≡ (unit_turn s found b >>= onward s)
+turns_of : (s : ℕ) (found : List Item) (b : List Token)
+    → turns (unit_turn s) (length b) found b ≡ (unit_turn s found b >>= onward s)
 turns_of s found b = canon (unit_turn s) (λ found. refl) (unit_shorter s) found b
 
-turns_item : (s : ℕ) (found : List Part) (b : List Token) (o : Outcome Part) → is_end (kind_of b) ≡ false → item s b ≡ o → turns (unit_turn s) (length b) found b ≡ ((o >>= with_item found) >>= onward s)
+turns_item : (s : ℕ) (found : List Item) (b : List Token) (o : Outcome Item)
+    → is_end (kind_of b) ≡ false → item s b ≡ o
+    → turns (unit_turn s) (length b) found b ≡ ((o >>= with_item found) >>= onward s)
 turns_item s found b o e is = turns_of s found b ∙ ap (λ c. unit_turn_by c s found b >>= onward s) e ∙ ap (λ o. (o >>= with_item found) >>= onward s) is
 
-no_end : (a : List Leveled) (rest ts b : List Token) → 0 < length a → ts ≡ tokens_of a ++ rest → is_end (kind_of ts) ≡ false → is_end (kind_of (tokens_of a ++ b)) ≡ false
+no_end : (a : List Leveled) (rest ts b : List Token) → 0 < length a → ts ≡ tokens_of a ++ rest
+    → is_end (kind_of ts) ≡ false → is_end (kind_of (tokens_of a ++ b)) ≡ false
 no_end [] rest ts b some splits e = absurd (omega arith)
 no_end (x ∷ a) rest ts b some splits e = ap (λ us. is_end (kind_of us)) (sym splits) ∙ e
 
-refused_again : (s : ℕ) (found : List Part) (a : List Leveled) (rest ts b : List Token) → ts ≡ tokens_of a ++ rest → is_end (kind_of ts) ≡ false → Looks rest b → item s (tokens_of a ++ b) ≡ Err (Unexpected (place_of b))
+refused_again : (s : ℕ) (found : List Item) (a : List Leveled) (rest ts b : List Token)
+    → ts ≡ tokens_of a ++ rest → is_end (kind_of ts) ≡ false → Looks rest b
+    → item s (tokens_of a ++ b) ≡ Err (Unexpected (place_of b))
     → turns (unit_turn s) (length (tokens_of a ++ b)) found (tokens_of a ++ b) ≡ Err (Unexpected (place_of b))
 refused_again s found (x ∷ a) rest ts b splits e l is = turns_item s found (tokens_of (x ∷ a) ++ b) (Err (Unexpected (place_of b))) (no_end (x ∷ a) rest ts b (omega arith) splits e) is
 refused_again s found [] rest ts [] splits e l is = refl
@@ -115,10 +133,10 @@ refused_again s found [] (t ∷ rest) ts (y ∷ b) splits e l is =
     turns_item s found (y ∷ b) (Err (Unexpected y.place)) (ap (λ (u : Token). is_end u.kind) (sym l) ∙ ap (λ us. is_end (kind_of us)) (sym splits) ∙ e) is
 
 module _ (I : Type 0) (m r : ℕ) (r' : I → ℕ) (room : r ≡ m - zero) (some : 0 < r) (wide : (i : I) → r ≤ r' i) where
-  abbrev units : List Part → I → List Token → Outcome (List Part)
+  abbrev units : List Item → I → List Token → Outcome (List Item)
   units found i b = turns (unit_turn (r' i)) (length b) found b
 
-  nothing_left : (found : List Part) → Law m (plain (UnitLeft found)) (units found) [] (refuse [])
+  nothing_left : (found : List Item) → Law m (plain (UnitLeft found)) (units found) [] (refuse [])
   nothing_left found = record {
     read = [];
     rest = [];
@@ -131,7 +149,9 @@ module _ (I : Type 0) (m r : ℕ) (r' : I → ℕ) (room : r ≡ m - zero) (some
     again = λ i b l. turns_none (unit_turn (r' i)) (λ found. refl) (unit_shorter (r' i)) found b l;
   }
 
-  end_law : (n : ℕ) (found : List Part) (ts : List Token) → is_end (kind_of ts) ≡ true → WholeLaw m (UnitLeft found) (units found) ts ((take r ts >>= λ u. Ok (inr found, u.1)) >>= turn (turns (unit_turn r) n))
+  end_law : (n : ℕ) (found : List Item) (ts : List Token) → is_end (kind_of ts) ≡ true
+      → WholeLaw m (UnitLeft found) (units found) ts
+      ((take r ts >>= λ u. Ok (inr found, u.1)) >>= turn (turns (unit_turn r) n))
   end_law n found [] e = nothing_left found
   end_law n found (t ∷ ts) e =
       let token : Token = record { kind = k.End; place = t.place } in
@@ -144,8 +164,9 @@ module _ (I : Type 0) (m r : ℕ) (r' : I → ℕ) (room : r ≡ m - zero) (some
         again = λ i b l. turns_of (r' i) found (token ∷ b) ∙ ap (λ o. (o >>= λ u. Ok (inr found, u.1)) >>= onward (r' i)) (take_some (r' i) token b (let w = wide i in omega arith));
       })
 
-  item_then : (n : ℕ) (found : List Part) (ts : List Token) (o : Outcome Part) → length ts ≤ suc n → is_end (kind_of ts) ≡ false → Law m (plain (IsItem zero)) (λ i. item (r' i)) ts o
-      → ((found : List Part) (us : List Token) → length us ≤ n → WholeLaw m (UnitLeft found) (units found) us (turns (unit_turn r) n found us))
+  item_then : (n : ℕ) (found : List Item) (ts : List Token) (o : Outcome Item) → length ts ≤ suc n
+      → is_end (kind_of ts) ≡ false → Law m (plain (IsItem zero)) (λ i. item (r' i)) ts o
+      → ((found : List Item) (us : List Token) → length us ≤ n → WholeLaw m (UnitLeft found) (units found) us (turns (unit_turn r) n found us))
       → WholeLaw m (UnitLeft found) (units found) ts ((o >>= with_item found) >>= turn (turns (unit_turn r) n))
   item_then n found ts (Ok x) most e h onwards =
       let not_empty = item_some h.holds in
@@ -179,18 +200,20 @@ module _ (I : Type 0) (m r : ℕ) (r' : I → ℕ) (room : r ≡ m - zero) (some
   }
   item_then n found ts (Err OutOfMemory) most e h onwards = absurd h
 
-  turn_then : (n : ℕ) (found : List Part) (ts : List Token) (c : Bool) → length ts ≤ suc n → is_end (kind_of ts) ≡ c
-      → ((found : List Part) (us : List Token) → length us ≤ n → WholeLaw m (UnitLeft found) (units found) us (turns (unit_turn r) n found us))
+  turn_then : (n : ℕ) (found : List Item) (ts : List Token) (c : Bool) → length ts ≤ suc n
+      → is_end (kind_of ts) ≡ c
+      → ((found : List Item) (us : List Token) → length us ≤ n → WholeLaw m (UnitLeft found) (units found) us (turns (unit_turn r) n found us))
       → WholeLaw m (UnitLeft found) (units found) ts (unit_turn_by c r found ts >>= turn (turns (unit_turn r) n))
   turn_then n found ts true most e onwards = end_law n found ts e
   turn_then n found ts false most e onwards = item_then n found ts (item r ts) most e (item_law I m zero r r' ts room wide).law onwards
 
-  units_law : (n : ℕ) (found : List Part) (ts : List Token) → length ts ≤ n → WholeLaw m (UnitLeft found) (units found) ts (turns (unit_turn r) n found ts)
+  units_law : (n : ℕ) (found : List Item) (ts : List Token) → length ts ≤ n
+      → WholeLaw m (UnitLeft found) (units found) ts (turns (unit_turn r) n found ts)
   units_law zero found [] most = nothing_left found
   units_law zero found (t ∷ ts) most = absurd (omega arith)
   units_law (suc n) found ts most = turn_then n found ts (is_end (kind_of ts)) most refl (units_law n)
 
-  unit_of : (a : List Leveled) (xs : List Part) → UnitLeft [] a xs → IsUnit a xs
+  unit_of : (a : List Leveled) (xs : List Item) → UnitLeft [] a xs → IsUnit a xs
   unit_of _ _ (left p h) = g.unit p h
 
   pub unit_law : (ts : List Token) → WholeLaw m IsUnit (λ i. unit (r' i)) ts (unit r ts)

@@ -3,16 +3,16 @@ use Rattle.std.proofs.Common.{◌≡◌, zero, List, [], ◌∷◌, ◌++◌, Ok
 use Rattle.std.specs.Prelude.{Result}
 use Rattle.c_token.specs.declared.token.Token.{Token}
 use Rattle.c_tree.specs.declared.place.Place.{Place}
-use Rattle.c_tree.specs.Syntax.{Part}
+use Rattle.c_tree.specs.Item.{Item}
 use Rattle.c_expr.specs.declared.fault.ParseFault.{ParseFault}
 use Rattle.c_expr.specs.declared.fault.ParseFault.TheVariants.{Unexpected, TooDeep, OutOfMemory}
 use Rattle.c_expr.specs.Leveled.{Leveled, tokens_of}
 use Rattle.c_expr.specs.Next.{Outcome, place_of}
 use Rattle.c_expr.specs.Parsing.{IsEnded}
-use Rattle.c_expr.proofs.Exact.{wide, below_of, not_all, read_ends, refused_ends}
+use Rattle.c_expr.proofs.ExactExpressions.{wide, below_of, not_all, read_ends, refused_ends}
 use Rattle.c_expr.proofs.Law.{Looks, AreLow}
 use Rattle.c_decl.specs.Units.{IsUnit}
-use Rattle.c_decl.specs.UnitReading.{unit}
+use Rattle.c_decl.specs.private.UnitReading.{unit}
 use Rattle.c_decl.specs.Whole.{IsOutOfPlace, ParsedWhole}
 use Rattle.c_decl.proofs.SoundUnits.{WholeLaw, unit_law}
 
@@ -24,7 +24,9 @@ whole_of (Err e) = Err e
 
 module _ {X : Type 0} (P : List Leveled → X → Type 0) (wider : List Leveled → List Token → Outcome X)
     (complete : (c : List Leveled) (x : X) → P c x → wider c (tokens_of c ++ []) ≡ Ok (x, [])) where
-  refused_by : (ts : List Token) (p : Place) (read : List Leveled) (rest : List Token) (more : List Leveled) (x : X) → IsEnded ts → ts ≡ tokens_of read ++ rest → place_of rest ≡ p → AreLow 201 read → P (read ++ more) x
+  refused_by : (ts : List Token) (p : Place) (read : List Leveled) (rest : List Token)
+      (more : List Leveled) (x : X) → IsEnded ts → ts ≡ tokens_of read ++ rest → place_of rest ≡ p
+      → AreLow 201 read → P (read ++ more) x
       → ((c : List Leveled) (b : List Token) → Looks rest b → wider c (tokens_of read ++ b) ≡ Err (Unexpected (place_of b))) → IsOutOfPlace P ts p
   refused_by ts p read [] more x ended splits place low holds again = absurd (not_all 201 ts read ended low splits)
   refused_by ts p read (next ∷ rest) more x ended splits place low holds again = record {
@@ -40,7 +42,8 @@ module _ {X : Type 0} (P : List Leveled → X → Type 0) (wider : List Leveled 
     no_further = refused_ends P wider complete read (next ∷ rest) again;
   }
 
-  pub whole_by : (ts : List Token) (o : Outcome X) → IsEnded ts → WholeLaw 201 P wider ts o → ParsedWhole P ts (whole_of o)
+  pub whole_by : (ts : List Token) (o : Outcome X) → IsEnded ts → WholeLaw 201 P wider ts o
+      → ParsedWhole P ts (whole_of o)
   whole_by ts (Ok (x, [])) ended h = record { read = h.read; splits = h.splits; spelled = h.holds; low = h.low; no_further = tt }
   whole_by ts (Ok (x, next ∷ rest)) ended h = record {
     read = h.read;
@@ -70,6 +73,8 @@ module _ {X : Type 0} (P : List Leveled → X → Type 0) (wider : List Leveled 
   whole_by ts (Err OutOfMemory) ended h = tt
 
 -- a whole text, by its own reader with more room
-pub unit_by : ((c : List Leveled) (xs : List Part) → IsUnit c xs → unit (wide zero c) (tokens_of c ++ []) ≡ Ok (xs, [])) → (ts : List Token) → IsEnded ts → ParsedWhole IsUnit ts (whole_of (unit 201 ts))
+pub unit_by : ((c : List Leveled) (xs : List Item) → IsUnit c xs
+    → unit (wide zero c) (tokens_of c ++ []) ≡ Ok (xs, [])) → (ts : List Token) → IsEnded ts
+    → ParsedWhole IsUnit ts (whole_of (unit 201 ts))
 unit_by complete ts ended =
     whole_by IsUnit (λ c. unit (wide zero c)) complete ts (unit 201 ts) ended (unit_law (List Leveled) 201 201 (wide zero) (omega arith) (omega arith) (λ c. omega arith) ts)

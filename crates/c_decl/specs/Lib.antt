@@ -1,9 +1,6 @@
-pub mod Words
 pub mod Declarations
-pub mod Statements
+pub mod GrammarWords
+pub mod StatementGrammar
 pub mod Units
 pub mod Whole
-pub mod Reading
-pub mod StatementReading
-pub mod UnitReading
-pub mod Ends
+pub mod private

@@ -3,18 +3,19 @@
 ghost use Rattle.std.specs.Prelude.{◌≤◌, [], map, option_map, IfOk};
 ghost use Rattle.c_tree.specs.View as view;
 ghost use Rattle.c_expr.specs.Next.{Gives, Reads};
-ghost use Rattle.c_decl.specs.Reading as read;
+ghost use Rattle.c_decl.specs.private.DeclarationReading as read;
 
-use crate::expression::{assign, cond};
-use crate::rest::{Rest, base, expect, take};
+use crate::expression::{parse_assign, parse_conditional};
+use crate::rest::{Rest, expect, parse_base, take};
 use c_expr::{ParseFault, is_sign, place_of};
 use c_token::{Kind, Token};
 use c_tree::{CType, Expr, Init, Name, Place, Var};
 use std::alloc::Global;
 
 /// Stars (C11 6.7.6.1): how many, and the room behind them.
-pub(crate) fn stars(whole: Rest, mut room: u32) -> Result<(u32, u32, Rest), ParseFault>
-    ensures value { Reads (λ x. ((x.0, x.1), x.2.tokens.now)) result (read.stars_from room 0 whole.entry.tokens.now) }
+pub(crate) fn parse_stars(whole: Rest, mut room: u32) -> Result<(u32, u32, Rest), ParseFault>
+    ensures value { Reads (λ x. ((x.0, x.1), x.2.tokens.now)) result
+        (read.stars_from room 0 whole.entry.tokens.now) }
     ensures room { IfOk result (λ x. x.1 ≤ room) }
 {
     let mut count = 0;
@@ -29,8 +30,13 @@ pub(crate) fn stars(whole: Rest, mut room: u32) -> Result<(u32, u32, Rest), Pars
 }
 
 /// A name, in memory of its own, and its place.
-pub(crate) fn name(alloc: Global, rest: Rest, room: u32) -> Result<(Name, Place, Rest), ParseFault>
-    ensures { Gives (λ x. ((x.0, x.1), x.2.tokens.now)) result (read.name room rest.entry.tokens.now) }
+pub(crate) fn parse_name(
+    alloc: Global,
+    rest: Rest,
+    room: u32,
+) -> Result<(Name, Place, Rest), ParseFault>
+    ensures { Gives (λ x. ((x.0, x.1), x.2.tokens.now)) result
+        (read.name room rest.entry.tokens.now) }
 {
     match rest.tokens {
         [
@@ -48,9 +54,14 @@ pub(crate) fn name(alloc: Global, rest: Rest, room: u32) -> Result<(Name, Place,
 }
 
 /// Sizes of arrays behind a name (C11 6.7.6.2), and the room behind them.
-fn sizes(alloc: Global, whole: Rest, mut room: u32) -> Result<(Vec<Expr>, u32, Rest), ParseFault>
+fn parse_sizes(
+    alloc: Global,
+    whole: Rest,
+    mut room: u32,
+) -> Result<(Vec<Expr>, u32, Rest), ParseFault>
     requires { room ≤ 201 }
-    ensures value { Gives (λ x. ((map view.expression x.0.items, x.1), x.2.tokens.now)) result (read.sizes_from room [] whole.entry.tokens.now) }
+    ensures value { Gives (λ x. ((map view.expr_of x.0.items, x.1), x.2.tokens.now)) result
+        (read.sizes_from room [] whole.entry.tokens.now) }
     ensures room { IfOk result (λ x. x.1 ≤ room) }
 {
     let mut found = Vec::new(alloc);
@@ -58,7 +69,7 @@ fn sizes(alloc: Global, whole: Rest, mut room: u32) -> Result<(Vec<Expr>, u32, R
     while is_sign(rest.tokens, *b"[\0\0") {
         let (_, after) = take(rest, room)?;
         room -= 1;
-        let (size, after) = cond(alloc, after, room)?;
+        let (size, after) = parse_conditional(alloc, after, room)?;
         let (_, after) = expect(*b"]\0\0", after, room)?;
         found.push(size)?;
         rest = after;
@@ -67,31 +78,33 @@ fn sizes(alloc: Global, whole: Rest, mut room: u32) -> Result<(Vec<Expr>, u32, R
 }
 
 /// What a variable is initialised with (C11 6.7.9).
-fn init(alloc: Global, rest: Rest, room: u32) -> Result<(Init, Rest), ParseFault>
+fn parse_init(alloc: Global, rest: Rest, room: u32) -> Result<(Init, Rest), ParseFault>
     requires { room ≤ 201 }
-    ensures { Gives (λ x. (view.initialiser x.0, x.1.tokens.now)) result (read.init room rest.entry.tokens.now) }
+    ensures { Gives (λ x. (view.init_of x.0, x.1.tokens.now)) result
+        (read.init room rest.entry.tokens.now) }
 {
     if is_sign(rest.tokens, *b"{\0\0") {
         let (_, rest) = take(rest, room)?;
-        let (found, rest) = values(alloc, rest, room)?;
+        let (found, rest) = parse_values(alloc, rest, room)?;
         Ok((Init::Many(found), rest))
     } else {
-        let (value, rest) = assign(alloc, rest, room)?;
+        let (value, rest) = parse_assign(alloc, rest, room)?;
         Ok((Init::One(value), rest))
     }
 }
 
 /// Values with commas between them and the closing brace, before which one more comma may stand.
-fn values(alloc: Global, whole: Rest, room: u32) -> Result<(Vec<Expr>, Rest), ParseFault>
+fn parse_values(alloc: Global, whole: Rest, room: u32) -> Result<(Vec<Expr>, Rest), ParseFault>
     requires { room ≤ 201 }
-    ensures { Gives (λ x. (map view.expression x.0.items, x.1.tokens.now)) result (read.values room whole.entry.tokens.now) }
+    ensures { Gives (λ x. (map view.expr_of x.0.items, x.1.tokens.now)) result
+        (read.values room whole.entry.tokens.now) }
 {
     let mut found = Vec::new(alloc);
     let mut rest = whole;
     for _ in 0..whole.tokens.len() {
-        let (value, after) = assign(alloc, rest, room)?;
+        let (value, after) = parse_assign(alloc, rest, room)?;
         found.push(value)?;
-        let (ended, after) = value_end(after, room)?;
+        let (ended, after) = parse_value_end(after, room)?;
         if ended {
             return Ok((found, after));
         }
@@ -101,8 +114,9 @@ fn values(alloc: Global, whole: Rest, room: u32) -> Result<(Vec<Expr>, Rest), Pa
 }
 
 /// What follows a value, and whether that ends the list.
-fn value_end(rest: Rest, room: u32) -> Result<(bool, Rest), ParseFault>
-    ensures { Reads (λ x. (x.0, x.1.tokens.now)) result (read.value_end room rest.entry.tokens.now) }
+fn parse_value_end(rest: Rest, room: u32) -> Result<(bool, Rest), ParseFault>
+    ensures { Reads (λ x. (x.0, x.1.tokens.now)) result
+        (read.value_end room rest.entry.tokens.now) }
 {
     if is_sign(rest.tokens, *b",\0\0") {
         let (_, rest) = take(rest, room)?;
@@ -119,23 +133,24 @@ fn value_end(rest: Rest, room: u32) -> Result<(bool, Rest), ParseFault>
 }
 
 /// A declarator (C11 6.7.6), behind its base.
-fn declarator<'a>(
+fn parse_var<'a>(
     alloc: Global,
     base: &CType,
     rest: Rest<'a>,
     room: u32,
 ) -> Result<(Var, Rest<'a>), ParseFault>
     requires { room ≤ 201 }
-    ensures { Gives (λ x. (view.declarator x.0, x.1.tokens.now)) result (read.declarator (view.shape base.now) room rest.entry.tokens.now) }
+    ensures { Gives (λ x. (view.var_of x.0, x.1.tokens.now)) result
+        (read.declarator (view.ty_of base.now) room rest.entry.tokens.now) }
 {
-    let (stars, room, rest) = stars(rest, room)?;
-    let (name, place, rest) = name(alloc, rest, room)?;
+    let (stars, room, rest) = parse_stars(rest, room)?;
+    let (name, place, rest) = parse_name(alloc, rest, room)?;
     let base = base.again(alloc)?;
-    behind_name(alloc, base, stars, name, place, rest, room)
+    parse_behind_name(alloc, base, stars, name, place, rest, room)
 }
 
 /// The rest of a declarator, behind its name.
-pub(crate) fn behind_name(
+pub(crate) fn parse_behind_name(
     alloc: Global,
     base: CType,
     stars: u32,
@@ -145,10 +160,11 @@ pub(crate) fn behind_name(
     room: u32,
 ) -> Result<(Var, Rest), ParseFault>
     requires { room ≤ 201 }
-    ensures { Gives (λ x. (view.declarator x.0, x.1.tokens.now)) result (read.behind_name (view.shape base) stars name place room rest.entry.tokens.now) }
+    ensures { Gives (λ x. (view.var_of x.0, x.1.tokens.now)) result
+        (read.behind_name (view.ty_of base) stars name place room rest.entry.tokens.now) }
 {
-    let (sizes, room, rest) = sizes(alloc, rest, room)?;
-    let (init, rest) = initialised(alloc, rest, room)?;
+    let (sizes, room, rest) = parse_sizes(alloc, rest, room)?;
+    let (init, rest) = parse_optional_init(alloc, rest, room)?;
     let var = Var {
         base,
         stars,
@@ -161,13 +177,18 @@ pub(crate) fn behind_name(
 }
 
 /// The initialiser of a declarator, if it has one.
-fn initialised(alloc: Global, rest: Rest, room: u32) -> Result<(Option<Init>, Rest), ParseFault>
+fn parse_optional_init(
+    alloc: Global,
+    rest: Rest,
+    room: u32,
+) -> Result<(Option<Init>, Rest), ParseFault>
     requires { room ≤ 201 }
-    ensures { Gives (λ x. (option_map view.initialiser x.0, x.1.tokens.now)) result (read.initialised room rest.entry.tokens.now) }
+    ensures { Gives (λ x. (option_map view.init_of x.0, x.1.tokens.now)) result
+        (read.initialised room rest.entry.tokens.now) }
 {
     if is_sign(rest.tokens, *b"=\0\0") {
         let (_, rest) = take(rest, room)?;
-        let (init, rest) = init(alloc, rest, room)?;
+        let (init, rest) = parse_init(alloc, rest, room)?;
         Ok((Some(init), rest))
     } else {
         Ok((None, rest))
@@ -175,7 +196,7 @@ fn initialised(alloc: Global, rest: Rest, room: u32) -> Result<(Option<Init>, Re
 }
 
 /// What follows the first declarator, through the semicolon.
-pub(crate) fn more_declarators<'a>(
+pub(crate) fn parse_more_vars<'a>(
     alloc: Global,
     base: &CType,
     first: Var,
@@ -183,7 +204,9 @@ pub(crate) fn more_declarators<'a>(
     room: u32,
 ) -> Result<(Vec<Var>, Rest<'a>), ParseFault>
     requires { room ≤ 201 }
-    ensures { Gives (λ x. (map view.declarator x.0.items, x.1.tokens.now)) result (read.more_declarators (view.shape base.now) (view.declarator first) room whole.entry.tokens.now) }
+    ensures { Gives (λ x. (map view.var_of x.0.items, x.1.tokens.now)) result
+        (read.more_declarators (view.ty_of base.now)
+        (view.var_of first) room whole.entry.tokens.now) }
 {
     let mut found = Vec::new(alloc);
     found.push(first)?;
@@ -191,7 +214,7 @@ pub(crate) fn more_declarators<'a>(
     for _ in 0..whole.tokens.len() {
         if is_sign(rest.tokens, *b",\0\0") {
             let (_, after) = take(rest, room)?;
-            let (next, after) = declarator(alloc, base, after, room)?;
+            let (next, after) = parse_var(alloc, base, after, room)?;
             found.push(next)?;
             rest = after;
         } else {
@@ -203,11 +226,16 @@ pub(crate) fn more_declarators<'a>(
 }
 
 /// A declaration of variables (C11 6.7), through the semicolon.
-pub(crate) fn vars(alloc: Global, rest: Rest, room: u32) -> Result<(Vec<Var>, Rest), ParseFault>
+pub(crate) fn parse_vars(
+    alloc: Global,
+    rest: Rest,
+    room: u32,
+) -> Result<(Vec<Var>, Rest), ParseFault>
     requires { room ≤ 201 }
-    ensures { Gives (λ x. (map view.declarator x.0.items, x.1.tokens.now)) result (read.vars room rest.entry.tokens.now) }
+    ensures { Gives (λ x. (map view.var_of x.0.items, x.1.tokens.now)) result
+        (read.vars room rest.entry.tokens.now) }
 {
-    let (base, rest) = base(rest, room)?;
-    let (first, rest) = declarator(alloc, &base, rest, room)?;
-    more_declarators(alloc, &base, first, rest, room)
+    let (base, rest) = parse_base(rest, room)?;
+    let (first, rest) = parse_var(alloc, &base, rest, room)?;
+    parse_more_vars(alloc, &base, first, rest, room)
 }

@@ -3,13 +3,13 @@
 ghost use Rattle.std.specs.Prelude.{◌≡◌, ◌≤◌, map, option_map};
 ghost use Rattle.c_tree.specs.View as view;
 ghost use Rattle.c_expr.specs.Next.{Gives, kind_of};
-ghost use Rattle.c_decl.specs.UnitReading as read;
-ghost use Rattle.c_decl.specs.Words as words;
+ghost use Rattle.c_decl.specs.private.UnitReading as read;
+ghost use Rattle.c_decl.specs.GrammarWords as words;
 
-use crate::declarator::{behind_name, more_declarators, name, stars, vars};
-use crate::parameter::parameters;
-use crate::rest::{Rest, base, expect, take};
-use crate::statement::body;
+use crate::declarator::{parse_behind_name, parse_more_vars, parse_name, parse_stars, parse_vars};
+use crate::parameter::parse_params;
+use crate::rest::{Rest, expect, parse_base, take};
+use crate::statement::parse_body;
 use c_expr::{ParseFault, is_sign, is_word};
 use c_token::Token;
 use c_tree::{CType, Fun, Item, Keep, Name, Param, Place, Stmt};
@@ -29,40 +29,42 @@ fn keep_of(rest: &[Token]) -> Option<Keep>
 }
 
 /// An item.
-pub(crate) fn item(alloc: Global, rest: Rest, room: u32) -> Result<(Item, Rest), ParseFault>
+pub(crate) fn parse_item(alloc: Global, rest: Rest, room: u32) -> Result<(Item, Rest), ParseFault>
     requires { room ≤ 201 }
-    ensures { Gives (λ x. (view.part x.0, x.1.tokens.now)) result (read.item room rest.entry.tokens.now) }
+    ensures { Gives (λ x. (view.item_of x.0, x.1.tokens.now)) result
+        (read.item room rest.entry.tokens.now) }
 {
     if let Some(keep) = keep_of(rest.tokens) {
         let (_, rest) = take(rest, room)?;
-        let (found, rest) = vars(alloc, rest, room)?;
+        let (found, rest) = parse_vars(alloc, rest, room)?;
         Ok((Item::Vars(keep, found), rest))
     } else if is_word(rest.tokens, "void") {
         let (_, rest) = take(rest, room)?;
-        let (name, place, rest) = name(alloc, rest, room)?;
-        function(alloc, CType::Void, 0, name, place, rest, room)
+        let (name, place, rest) = parse_name(alloc, rest, room)?;
+        parse_fun(alloc, CType::Void, 0, name, place, rest, room)
     } else {
-        typed(alloc, rest, room)
+        parse_typed(alloc, rest, room)
     }
 }
 
 /// An item that begins with a base.
-fn typed(alloc: Global, rest: Rest, room: u32) -> Result<(Item, Rest), ParseFault>
+fn parse_typed(alloc: Global, rest: Rest, room: u32) -> Result<(Item, Rest), ParseFault>
     requires { room ≤ 201 }
-    ensures { Gives (λ x. (view.part x.0, x.1.tokens.now)) result (read.typed room rest.entry.tokens.now) }
+    ensures { Gives (λ x. (view.item_of x.0, x.1.tokens.now)) result
+        (read.typed room rest.entry.tokens.now) }
 {
-    let (base, rest) = base(rest, room)?;
-    let (stars, inner, rest) = stars(rest, room)?;
-    let (name, place, rest) = name(alloc, rest, inner)?;
+    let (base, rest) = parse_base(rest, room)?;
+    let (stars, inner, rest) = parse_stars(rest, room)?;
+    let (name, place, rest) = parse_name(alloc, rest, inner)?;
     if is_sign(rest.tokens, *b"(\0\0") {
-        function(alloc, base, stars, name, place, rest, inner)
+        parse_fun(alloc, base, stars, name, place, rest, inner)
     } else {
-        globals(alloc, base, stars, name, place, rest, inner, room)
+        parse_globals(alloc, base, stars, name, place, rest, inner, room)
     }
 }
 
 /// Globals, behind the name of the first, where `inner` is the room.
-fn globals(
+fn parse_globals(
     alloc: Global,
     base: CType,
     stars: u32,
@@ -74,16 +76,17 @@ fn globals(
 ) -> Result<(Item, Rest), ParseFault>
     requires inner { inner ≤ 201 }
     requires room { room ≤ 201 }
-    ensures { Gives (λ x. (view.part x.0, x.1.tokens.now)) result (read.globals (view.shape base) stars name place inner room rest.entry.tokens.now) }
+    ensures { Gives (λ x. (view.item_of x.0, x.1.tokens.now)) result
+        (read.globals (view.ty_of base) stars name place inner room rest.entry.tokens.now) }
 {
     let again = base.again(alloc)?;
-    let (first, rest) = behind_name(alloc, again, stars, name, place, rest, inner)?;
-    let (found, rest) = more_declarators(alloc, &base, first, rest, room)?;
+    let (first, rest) = parse_behind_name(alloc, again, stars, name, place, rest, inner)?;
+    let (found, rest) = parse_more_vars(alloc, &base, first, rest, room)?;
     Ok((Item::Vars(Keep::Shared, found), rest))
 }
 
 /// A function, behind its name.
-fn function(
+fn parse_fun(
     alloc: Global,
     base: CType,
     stars: u32,
@@ -93,11 +96,12 @@ fn function(
     room: u32,
 ) -> Result<(Item, Rest), ParseFault>
     requires { room ≤ 201 }
-    ensures { Gives (λ x. (view.part x.0, x.1.tokens.now)) result (read.function (view.shape base) stars name place room rest.entry.tokens.now) }
+    ensures { Gives (λ x. (view.item_of x.0, x.1.tokens.now)) result
+        (read.function (view.ty_of base) stars name place room rest.entry.tokens.now) }
 {
     let (_, rest) = expect(*b"(\0\0", rest, room)?;
-    let (params, rest) = parameters(alloc, rest, room)?;
-    let (body, rest) = function_body(alloc, rest, room)?;
+    let (params, rest) = parse_params(alloc, rest, room)?;
+    let (body, rest) = parse_fun_body(alloc, rest, room)?;
     let found = Fun {
         base,
         stars,
@@ -110,20 +114,21 @@ fn function(
 }
 
 /// The body of a function, or a semicolon in its place.
-fn function_body(
+fn parse_fun_body(
     alloc: Global,
     rest: Rest,
     room: u32,
 ) -> Result<(Option<Vec<Stmt>>, Rest), ParseFault>
     requires { room ≤ 201 }
-    ensures { Gives (λ x. (option_map (λ ss. map view.statement ss.items) x.0, x.1.tokens.now)) result (read.function_body room rest.entry.tokens.now) }
+    ensures { Gives (λ x. (option_map (λ ss. map view.stmt_of ss.items) x.0, x.1.tokens.now))
+        result (read.function_body room rest.entry.tokens.now) }
 {
     if is_sign(rest.tokens, *b";\0\0") {
         let (_, rest) = take(rest, room)?;
         Ok((None, rest))
     } else {
         let (_, rest) = expect(*b"{\0\0", rest, room)?;
-        let (found, rest) = body(alloc, rest, room)?;
+        let (found, rest) = parse_body(alloc, rest, room)?;
         Ok((Some(found), rest))
     }
 }

@@ -4,7 +4,7 @@
 mod declarator;
 mod expression;
 mod item;
-mod law;
+mod laws;
 mod marker;
 mod node;
 mod opening;
@@ -13,5 +13,5 @@ mod rest;
 mod statement;
 mod unit;
 
-pub use law::{one_answer_of_a_text, one_tree_of_a_text};
+pub use laws::{one_answer_of_a_text, one_tree_of_a_text};
 pub use unit::parse;

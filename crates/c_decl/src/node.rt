@@ -1,74 +1,75 @@
 //! Statements, from their parts.
 
 ghost use Rattle.std.specs.Prelude.{◌≡◌, map, option_map, IfOk};
-ghost use Rattle.c_tree.specs.Syntax.{Nothing, Evaluated, Declared, Compound, Marked, Branch, Fork, Loop, LoopOnce, LoopFrom, Returned, BreakOut, GoOn};
-ghost use Rattle.c_tree.specs.View.{expression, declarator, statement, statements, beginning};
+ghost use Rattle.c_tree.specs.Stmt as stmt;
+ghost use Rattle.c_tree.specs.View.{expr_of, var_of, stmt_of, stmts_of, first_of};
 
 use c_tree::{Expr, First, Marker, OutOfMemory, Place, Stmt, StmtKind, Var};
 use std::alloc::Global;
 
 /// The empty statement.
-pub(crate) fn nothing(place: Place) -> Stmt
-    ensures { statement result ≡ Nothing place }
+pub(crate) fn build_empty(place: Place) -> Stmt
+    ensures { stmt_of result ≡ stmt.Empty place }
 {
     let kind = StmtKind::Empty;
     Stmt { kind, place }
 }
 
 /// An expression statement.
-pub(crate) fn evaluated(value: Expr, place: Place) -> Stmt
-    ensures { statement result ≡ Evaluated (expression value) place }
+pub(crate) fn build_expr(value: Expr, place: Place) -> Stmt
+    ensures { stmt_of result ≡ stmt.Expr (expr_of value) place }
 {
     let kind = StmtKind::Expr(value);
     Stmt { kind, place }
 }
 
 /// A declaration.
-pub(crate) fn declared(vars: Vec<Var>, place: Place) -> Stmt
-    ensures { statement result ≡ Declared (map declarator vars.items) place }
+pub(crate) fn build_vars(vars: Vec<Var>, place: Place) -> Stmt
+    ensures { stmt_of result ≡ stmt.Vars (map var_of vars.items) place }
 {
     let kind = StmtKind::Vars(vars);
     Stmt { kind, place }
 }
 
 /// A block.
-pub(crate) fn compound(body: Vec<Stmt>, place: Place) -> Stmt
-    ensures { statement result ≡ Compound (statements body.items) place }
+pub(crate) fn build_block(body: Vec<Stmt>, place: Place) -> Stmt
+    ensures { stmt_of result ≡ stmt.Block (stmts_of body.items) place }
 {
     let kind = StmtKind::Block(body);
     Stmt { kind, place }
 }
 
 /// A marker.
-pub(crate) fn marked(marker: Marker, place: Place) -> Stmt
-    ensures { statement result ≡ Marked marker place }
+pub(crate) fn build_marker(marker: Marker, place: Place) -> Stmt
+    ensures { stmt_of result ≡ stmt.Marker marker place }
 {
     let kind = StmtKind::Marker(marker);
     Stmt { kind, place }
 }
 
 /// An `if` without `else`.
-pub(crate) fn branch(
+pub(crate) fn build_if(
     alloc: Global,
     test: Expr,
     then: Stmt,
     place: Place,
 ) -> Result<Stmt, OutOfMemory>
-    ensures { IfOk result (λ s. statement s ≡ Branch (expression test) (statement then) place) }
+    ensures { IfOk result (λ s. stmt_of s ≡ stmt.If (expr_of test) (stmt_of then) place) }
 {
     let kind = StmtKind::If(test, Box::new(alloc, then)?, None);
     Ok(Stmt { kind, place })
 }
 
 /// An `if` with its `else`.
-pub(crate) fn fork(
+pub(crate) fn build_if_else(
     alloc: Global,
     test: Expr,
     then: Stmt,
     other: Stmt,
     place: Place,
 ) -> Result<Stmt, OutOfMemory>
-    ensures { IfOk result (λ s. statement s ≡ Fork (expression test) (statement then) (statement other) place) }
+    ensures { IfOk result (λ s. stmt_of s
+        ≡ stmt.IfElse (expr_of test) (stmt_of then) (stmt_of other) place) }
 {
     let then = Box::new(alloc, then)?;
     let other = Box::new(alloc, other)?;
@@ -77,33 +78,33 @@ pub(crate) fn fork(
 }
 
 /// A `while`.
-pub(crate) fn repeated(
+pub(crate) fn build_while(
     alloc: Global,
     test: Expr,
     body: Stmt,
     place: Place,
 ) -> Result<Stmt, OutOfMemory>
-    ensures { IfOk result (λ s. statement s ≡ Loop (expression test) (statement body) place) }
+    ensures { IfOk result (λ s. stmt_of s ≡ stmt.While (expr_of test) (stmt_of body) place) }
 {
     let kind = StmtKind::While(test, Box::new(alloc, body)?);
     Ok(Stmt { kind, place })
 }
 
 /// A `do`.
-pub(crate) fn done_once(
+pub(crate) fn build_do(
     alloc: Global,
     body: Stmt,
     test: Expr,
     place: Place,
 ) -> Result<Stmt, OutOfMemory>
-    ensures { IfOk result (λ s. statement s ≡ LoopOnce (statement body) (expression test) place) }
+    ensures { IfOk result (λ s. stmt_of s ≡ stmt.Do (stmt_of body) (expr_of test) place) }
 {
     let kind = StmtKind::Do(Box::new(alloc, body)?, test);
     Ok(Stmt { kind, place })
 }
 
 /// A `for`.
-pub(crate) fn counted(
+pub(crate) fn build_for(
     alloc: Global,
     first: First,
     test: Option<Expr>,
@@ -111,7 +112,9 @@ pub(crate) fn counted(
     body: Stmt,
     place: Place,
 ) -> Result<Stmt, OutOfMemory>
-    ensures { IfOk result (λ s. statement s ≡ LoopFrom (beginning first) (option_map expression test) (option_map expression step) (statement body) place) }
+    ensures { IfOk result (λ s. stmt_of s
+        ≡ stmt.For (first_of first) (option_map expr_of test) (option_map expr_of step)
+        (stmt_of body) place) }
 {
     let body = Box::new(alloc, body)?;
     let kind = StmtKind::For(first, test, step, body);
@@ -119,24 +122,24 @@ pub(crate) fn counted(
 }
 
 /// A `return`.
-pub(crate) fn returned(value: Option<Expr>, place: Place) -> Stmt
-    ensures { statement result ≡ Returned (option_map expression value) place }
+pub(crate) fn build_return(value: Option<Expr>, place: Place) -> Stmt
+    ensures { stmt_of result ≡ stmt.Return (option_map expr_of value) place }
 {
     let kind = StmtKind::Return(value);
     Stmt { kind, place }
 }
 
 /// A `break`.
-pub(crate) fn broken_out(place: Place) -> Stmt
-    ensures { statement result ≡ BreakOut place }
+pub(crate) fn build_break(place: Place) -> Stmt
+    ensures { stmt_of result ≡ stmt.Break place }
 {
     let kind = StmtKind::Break;
     Stmt { kind, place }
 }
 
 /// A `continue`.
-pub(crate) fn going_on(place: Place) -> Stmt
-    ensures { statement result ≡ GoOn place }
+pub(crate) fn build_continue(place: Place) -> Stmt
+    ensures { stmt_of result ≡ stmt.Continue place }
 {
     let kind = StmtKind::Continue;
     Stmt { kind, place }

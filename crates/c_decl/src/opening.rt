@@ -2,7 +2,7 @@
 
 ghost use Rattle.std.specs.Prelude.{◌≡◌};
 ghost use Rattle.c_expr.specs.Next.{kind_of};
-ghost use Rattle.c_decl.specs.StatementReading as read;
+ghost use Rattle.c_decl.specs.private.StatementReading as read;
 
 use c_expr::{ParseFault, begins, is_sign, is_word, place_of};
 use c_token::Token;
@@ -56,7 +56,7 @@ pub(crate) fn opening_of(rest: &[Token]) -> Option<Opening>
 }
 
 /// Where no statement may be opened any more.
-pub(crate) fn start(rest: &[Token]) -> ParseFault
+pub(crate) fn fault_at_start(rest: &[Token]) -> ParseFault
     ensures { result ≡ read.fault_at_statement rest.now }
 {
     if opening_of(rest).is_some() || begins(rest) {

@@ -5,13 +5,13 @@ ghost use Rattle.c_tree.specs.View as view;
 ghost use Rattle.c_token.specs.declared.token.Kind.TheVariants as k;
 ghost use Rattle.c_expr.specs.Next as next;
 ghost use Rattle.c_expr.specs.Next.{Gives, Reads};
-ghost use Rattle.c_decl.specs.StatementReading as read;
+ghost use Rattle.c_decl.specs.private.StatementReading as read;
 
-use crate::declarator::vars;
-use crate::expression::assign;
-use crate::marker::marker;
+use crate::declarator::parse_vars;
+use crate::expression::parse_assign;
+use crate::marker::parse_marker;
 use crate::node;
-use crate::opening::{Opening, opening_of, start};
+use crate::opening::{Opening, fault_at_start, opening_of};
 use crate::rest::{Rest, expect, take};
 use c_expr::{ParseFault, is_base, is_sign, is_word, place_of};
 use c_token::Token;
@@ -19,199 +19,219 @@ use c_tree::{Expr, First, Place, Stmt};
 use std::alloc::Global;
 
 /// An expression, if one stands before the sign that closes it; the sign too.
-fn optional(
+fn parse_optional(
     alloc: Global,
     closer: [u8; 3],
     rest: Rest,
     room: u32,
 ) -> Result<(Option<Expr>, Rest), ParseFault>
     requires { room ≤ 201 }
-    ensures { Gives (λ x. (option_map view.expression x.0, x.1.tokens.now)) result (read.optional (k.Sign closer) room rest.entry.tokens.now) }
+    ensures { Gives (λ x. (option_map view.expr_of x.0, x.1.tokens.now)) result
+        (read.optional (k.Sign closer) room rest.entry.tokens.now) }
 {
     if is_sign(rest.tokens, closer) {
         let (_, rest) = take(rest, room)?;
         Ok((None, rest))
     } else {
-        let (value, rest) = assign(alloc, rest, room)?;
+        let (value, rest) = parse_assign(alloc, rest, room)?;
         let (_, rest) = expect(closer, rest, room)?;
         Ok((Some(value), rest))
     }
 }
 
 /// What a `for` begins with, through the first semicolon.
-fn beginning(alloc: Global, rest: Rest, room: u32) -> Result<(First, Rest), ParseFault>
+fn parse_first(alloc: Global, rest: Rest, room: u32) -> Result<(First, Rest), ParseFault>
     requires { room ≤ 201 }
-    ensures { Gives (λ x. (view.beginning x.0, x.1.tokens.now)) result (read.beginning room rest.entry.tokens.now) }
+    ensures { Gives (λ x. (view.first_of x.0, x.1.tokens.now)) result
+        (read.beginning room rest.entry.tokens.now) }
 {
     if is_sign(rest.tokens, *b";\0\0") {
         let (_, rest) = take(rest, room)?;
         Ok((First::Nothing, rest))
     } else if is_base(rest.tokens) {
-        let (found, rest) = vars(alloc, rest, room)?;
+        let (found, rest) = parse_vars(alloc, rest, room)?;
         Ok((First::Vars(found), rest))
     } else {
-        let (value, rest) = assign(alloc, rest, room)?;
+        let (value, rest) = parse_assign(alloc, rest, room)?;
         let (_, rest) = expect(*b";\0\0", rest, room)?;
         Ok((First::Expr(value), rest))
     }
 }
 
 /// An expression in parentheses.
-fn test(alloc: Global, rest: Rest, room: u32) -> Result<(Expr, Rest), ParseFault>
+fn parse_test(alloc: Global, rest: Rest, room: u32) -> Result<(Expr, Rest), ParseFault>
     requires { room ≤ 201 }
-    ensures { Gives (λ x. (view.expression x.0, x.1.tokens.now)) result (read.test room rest.entry.tokens.now) }
+    ensures { Gives (λ x. (view.expr_of x.0, x.1.tokens.now)) result
+        (read.test room rest.entry.tokens.now) }
 {
     let (_, rest) = expect(*b"(\0\0", rest, room)?;
-    let (value, rest) = assign(alloc, rest, room)?;
+    let (value, rest) = parse_assign(alloc, rest, room)?;
     let (_, rest) = expect(*b")\0\0", rest, room)?;
     Ok((value, rest))
 }
 
 /// An expression statement (C11 6.8.3), whose first token stands at this place.
-fn expression(
+fn parse_expr_stmt(
     alloc: Global,
     place: Place,
     rest: Rest,
     room: u32,
 ) -> Result<(Stmt, Rest), ParseFault>
     requires { room ≤ 201 }
-    ensures { Gives (λ x. (view.statement x.0, x.1.tokens.now)) result (read.expression_at place room rest.entry.tokens.now) }
+    ensures { Gives (λ x. (view.stmt_of x.0, x.1.tokens.now)) result
+        (read.expression_at place room rest.entry.tokens.now) }
 {
-    let (value, rest) = assign(alloc, rest, room)?;
+    let (value, rest) = parse_assign(alloc, rest, room)?;
     let (_, rest) = expect(*b";\0\0", rest, room)?;
-    Ok((node::evaluated(value, place), rest))
+    Ok((node::build_expr(value, place), rest))
 }
 
 /// A declaration, whose first token stands at this place.
-fn declaration(
+fn parse_vars_stmt(
     alloc: Global,
     place: Place,
     rest: Rest,
     room: u32,
 ) -> Result<(Stmt, Rest), ParseFault>
     requires { room ≤ 201 }
-    ensures { Gives (λ x. (view.statement x.0, x.1.tokens.now)) result (read.declaration_at place room rest.entry.tokens.now) }
+    ensures { Gives (λ x. (view.stmt_of x.0, x.1.tokens.now)) result
+        (read.declaration_at place room rest.entry.tokens.now) }
 {
-    let (found, rest) = vars(alloc, rest, room)?;
-    Ok((node::declared(found, place), rest))
+    let (found, rest) = parse_vars(alloc, rest, room)?;
+    Ok((node::build_vars(found, place), rest))
 }
 
 /// A marker, whose first token stands at this place.
-fn marker_at(alloc: Global, place: Place, rest: Rest, room: u32) -> Result<(Stmt, Rest), ParseFault>
-    ensures { Gives (λ x. (view.statement x.0, x.1.tokens.now)) result (read.marker_at place room rest.entry.tokens.now) }
+fn parse_marker_stmt(
+    alloc: Global,
+    place: Place,
+    rest: Rest,
+    room: u32,
+) -> Result<(Stmt, Rest), ParseFault>
+    ensures { Gives (λ x. (view.stmt_of x.0, x.1.tokens.now)) result
+        (read.marker_at place room rest.entry.tokens.now) }
 {
-    let (found, rest) = marker(alloc, rest, room)?;
-    Ok((node::marked(found, place), rest))
+    let (found, rest) = parse_marker(alloc, rest, room)?;
+    Ok((node::build_marker(found, place), rest))
 }
 
 /// An empty statement (C11 6.8.3).
-fn empty(rest: Rest, room: u32) -> Result<(Stmt, Rest), ParseFault>
-    ensures { Reads (λ x. (view.statement x.0, x.1.tokens.now)) result (read.empty room rest.entry.tokens.now) }
+fn parse_empty(rest: Rest, room: u32) -> Result<(Stmt, Rest), ParseFault>
+    ensures { Reads (λ x. (view.stmt_of x.0, x.1.tokens.now)) result
+        (read.empty room rest.entry.tokens.now) }
 {
     let (sign, rest) = take(rest, room)?;
-    Ok((node::nothing(sign.place), rest))
+    Ok((node::build_empty(sign.place), rest))
 }
 
 /// A `return` (C11 6.8.6.4).
-fn returned(alloc: Global, rest: Rest, room: u32) -> Result<(Stmt, Rest), ParseFault>
+fn parse_return(alloc: Global, rest: Rest, room: u32) -> Result<(Stmt, Rest), ParseFault>
     requires { room ≤ 201 }
-    ensures { Gives (λ x. (view.statement x.0, x.1.tokens.now)) result (read.returned room rest.entry.tokens.now) }
+    ensures { Gives (λ x. (view.stmt_of x.0, x.1.tokens.now)) result
+        (read.return_stmt room rest.entry.tokens.now) }
 {
     let (word, rest) = take(rest, room)?;
-    let (value, rest) = optional(alloc, *b";\0\0", rest, room)?;
-    Ok((node::returned(value, word.place), rest))
+    let (value, rest) = parse_optional(alloc, *b";\0\0", rest, room)?;
+    Ok((node::build_return(value, word.place), rest))
 }
 
 /// A `break` (C11 6.8.6.3).
-fn broken_out(rest: Rest, room: u32) -> Result<(Stmt, Rest), ParseFault>
-    ensures { Reads (λ x. (view.statement x.0, x.1.tokens.now)) result (read.broken_out room rest.entry.tokens.now) }
+fn parse_break(rest: Rest, room: u32) -> Result<(Stmt, Rest), ParseFault>
+    ensures { Reads (λ x. (view.stmt_of x.0, x.1.tokens.now)) result
+        (read.break_stmt room rest.entry.tokens.now) }
 {
     let (word, rest) = take(rest, room)?;
     let (_, rest) = expect(*b";\0\0", rest, room)?;
-    Ok((node::broken_out(word.place), rest))
+    Ok((node::build_break(word.place), rest))
 }
 
 /// A `continue` (C11 6.8.6.2).
-fn going_on(rest: Rest, room: u32) -> Result<(Stmt, Rest), ParseFault>
-    ensures { Reads (λ x. (view.statement x.0, x.1.tokens.now)) result (read.going_on room rest.entry.tokens.now) }
+fn parse_continue(rest: Rest, room: u32) -> Result<(Stmt, Rest), ParseFault>
+    ensures { Reads (λ x. (view.stmt_of x.0, x.1.tokens.now)) result
+        (read.continue_stmt room rest.entry.tokens.now) }
 {
     let (word, rest) = take(rest, room)?;
     let (_, rest) = expect(*b";\0\0", rest, room)?;
-    Ok((node::going_on(word.place), rest))
+    Ok((node::build_continue(word.place), rest))
 }
 
 /// Opens a statement, which adds a level.
 #[tactic(auto, using(crate::proofs::Nested::stated_open, crate::proofs::Nested::stated_stop))]
 #[cycle(statements)]
-fn statement(alloc: Global, rest: Rest, room: u32) -> Result<(Stmt, Rest), ParseFault>
+fn parse_stmt(alloc: Global, rest: Rest, room: u32) -> Result<(Stmt, Rest), ParseFault>
     requires { room ≤ 201 }
-    ensures { Gives (λ x. (view.statement x.0, x.1.tokens.now)) result (read.stated room rest.entry.tokens.now) }
+    ensures { Gives (λ x. (view.stmt_of x.0, x.1.tokens.now)) result
+        (read.stated room rest.entry.tokens.now) }
 {
     if room == 0 {
-        return Err(start(rest.tokens));
+        return Err(fault_at_start(rest.tokens));
     }
-    opened(alloc, rest, room - 1)
+    parse_opened(alloc, rest, room - 1)
 }
 
-#[tactic(auto, unfolding(crate::specs::StatementReading::opened))]
+#[tactic(auto, unfolding(crate::specs::private::StatementReading::opened))]
 #[cycle(statements)]
-fn opened(alloc: Global, rest: Rest, room: u32) -> Result<(Stmt, Rest), ParseFault>
+fn parse_opened(alloc: Global, rest: Rest, room: u32) -> Result<(Stmt, Rest), ParseFault>
     requires { room ≤ 201 }
-    ensures { Gives (λ x. (view.statement x.0, x.1.tokens.now)) result (read.opened read.stated room rest.entry.tokens.now) }
+    ensures { Gives (λ x. (view.stmt_of x.0, x.1.tokens.now)) result
+        (read.opened read.stated room rest.entry.tokens.now) }
 {
     match opening_of(rest.tokens) {
-        Some(Opening::Empty) => empty(rest, room),
-        Some(Opening::Block) => block(alloc, rest, room),
-        Some(Opening::If) => branch(alloc, rest, room),
-        Some(Opening::While) => repeated(alloc, rest, room),
-        Some(Opening::Do) => done_once(alloc, rest, room),
-        Some(Opening::For) => counted(alloc, rest, room),
-        Some(Opening::Return) => returned(alloc, rest, room),
-        Some(Opening::Break) => broken_out(rest, room),
-        Some(Opening::Continue) => going_on(rest, room),
-        Some(Opening::Marker) => marker_at(alloc, place_of(rest.tokens), rest, room),
-        None => expression(alloc, place_of(rest.tokens), rest, room),
+        Some(Opening::Empty) => parse_empty(rest, room),
+        Some(Opening::Block) => parse_block(alloc, rest, room),
+        Some(Opening::If) => parse_if(alloc, rest, room),
+        Some(Opening::While) => parse_while(alloc, rest, room),
+        Some(Opening::Do) => parse_do(alloc, rest, room),
+        Some(Opening::For) => parse_for(alloc, rest, room),
+        Some(Opening::Return) => parse_return(alloc, rest, room),
+        Some(Opening::Break) => parse_break(rest, room),
+        Some(Opening::Continue) => parse_continue(rest, room),
+        Some(Opening::Marker) => parse_marker_stmt(alloc, place_of(rest.tokens), rest, room),
+        None => parse_expr_stmt(alloc, place_of(rest.tokens), rest, room),
     }
 }
 
 /// A block (C11 6.8.2).
 #[cycle(statements)]
-fn block(alloc: Global, rest: Rest, room: u32) -> Result<(Stmt, Rest), ParseFault>
+fn parse_block(alloc: Global, rest: Rest, room: u32) -> Result<(Stmt, Rest), ParseFault>
     requires { room ≤ 201 }
-    ensures { Gives (λ x. (view.statement x.0, x.1.tokens.now)) result (read.block read.stated room rest.entry.tokens.now) }
+    ensures { Gives (λ x. (view.stmt_of x.0, x.1.tokens.now)) result
+        (read.block read.stated room rest.entry.tokens.now) }
 {
     let (sign, rest) = take(rest, room)?;
-    let (found, rest) = body(alloc, rest, room)?;
-    Ok((node::compound(found, sign.place), rest))
+    let (found, rest) = parse_body(alloc, rest, room)?;
+    Ok((node::build_block(found, sign.place), rest))
 }
 
 /// A `while` (C11 6.8.5.1).
 #[cycle(statements)]
-fn repeated(alloc: Global, rest: Rest, room: u32) -> Result<(Stmt, Rest), ParseFault>
+fn parse_while(alloc: Global, rest: Rest, room: u32) -> Result<(Stmt, Rest), ParseFault>
     requires { room ≤ 201 }
-    ensures { Gives (λ x. (view.statement x.0, x.1.tokens.now)) result (read.repeated read.stated room rest.entry.tokens.now) }
+    ensures { Gives (λ x. (view.stmt_of x.0, x.1.tokens.now)) result
+        (read.while_stmt read.stated room rest.entry.tokens.now) }
 {
     let (word, rest) = take(rest, room)?;
-    let (test, rest) = test(alloc, rest, room)?;
-    let (body, rest) = statement(alloc, rest, room)?;
-    Ok((node::repeated(alloc, test, body, word.place)?, rest))
+    let (test, rest) = parse_test(alloc, rest, room)?;
+    let (body, rest) = parse_stmt(alloc, rest, room)?;
+    Ok((node::build_while(alloc, test, body, word.place)?, rest))
 }
 
 /// An `if` (C11 6.8.4.1).
 #[cycle(statements)]
-fn branch(alloc: Global, rest: Rest, room: u32) -> Result<(Stmt, Rest), ParseFault>
+fn parse_if(alloc: Global, rest: Rest, room: u32) -> Result<(Stmt, Rest), ParseFault>
     requires { room ≤ 201 }
-    ensures { Gives (λ x. (view.statement x.0, x.1.tokens.now)) result (read.branch read.stated room rest.entry.tokens.now) }
+    ensures { Gives (λ x. (view.stmt_of x.0, x.1.tokens.now)) result
+        (read.if_stmt read.stated room rest.entry.tokens.now) }
 {
     let (word, rest) = take(rest, room)?;
-    let (test, rest) = test(alloc, rest, room)?;
-    let (then, rest) = statement(alloc, rest, room)?;
-    otherwise(alloc, test, then, word.place, rest, room)
+    let (test, rest) = parse_test(alloc, rest, room)?;
+    let (then, rest) = parse_stmt(alloc, rest, room)?;
+    parse_else(alloc, test, then, word.place, rest, room)
 }
 
 /// What follows the first statement of an `if`.
 #[cycle(statements)]
-fn otherwise(
+fn parse_else(
     alloc: Global,
     test: Expr,
     then: Stmt,
@@ -220,29 +240,32 @@ fn otherwise(
     room: u32,
 ) -> Result<(Stmt, Rest), ParseFault>
     requires { room ≤ 201 }
-    ensures { Gives (λ x. (view.statement x.0, x.1.tokens.now)) result (read.otherwise read.stated (view.expression test) (view.statement then) place room rest.entry.tokens.now) }
+    ensures { Gives (λ x. (view.stmt_of x.0, x.1.tokens.now)) result
+        (read.else_part read.stated (view.expr_of test)
+        (view.stmt_of then) place room rest.entry.tokens.now) }
 {
     if is_word(rest.tokens, "else") {
         let (_, rest) = take(rest, room)?;
-        let (other, rest) = statement(alloc, rest, room)?;
-        Ok((node::fork(alloc, test, then, other, place)?, rest))
+        let (other, rest) = parse_stmt(alloc, rest, room)?;
+        Ok((node::build_if_else(alloc, test, then, other, place)?, rest))
     } else {
-        Ok((node::branch(alloc, test, then, place)?, rest))
+        Ok((node::build_if(alloc, test, then, place)?, rest))
     }
 }
 
 /// A `do` (C11 6.8.5.2).
 #[cycle(statements)]
-fn done_once(alloc: Global, rest: Rest, room: u32) -> Result<(Stmt, Rest), ParseFault>
+fn parse_do(alloc: Global, rest: Rest, room: u32) -> Result<(Stmt, Rest), ParseFault>
     requires { room ≤ 201 }
-    ensures { Gives (λ x. (view.statement x.0, x.1.tokens.now)) result (read.done_once read.stated room rest.entry.tokens.now) }
+    ensures { Gives (λ x. (view.stmt_of x.0, x.1.tokens.now)) result
+        (read.do_stmt read.stated room rest.entry.tokens.now) }
 {
     let (word, rest) = take(rest, room)?;
-    let (body, rest) = statement(alloc, rest, room)?;
+    let (body, rest) = parse_stmt(alloc, rest, room)?;
     let (_, rest) = expect_word("while", rest, room)?;
-    let (test, rest) = test(alloc, rest, room)?;
+    let (test, rest) = parse_test(alloc, rest, room)?;
     let (_, rest) = expect(*b";\0\0", rest, room)?;
-    Ok((node::done_once(alloc, body, test, word.place)?, rest))
+    Ok((node::build_do(alloc, body, test, word.place)?, rest))
 }
 
 /// Takes this reserved word.
@@ -251,7 +274,8 @@ fn expect_word<'a>(
     rest: Rest<'a>,
     room: u32,
 ) -> Result<(&'a Token, Rest<'a>), ParseFault>
-    ensures { Reads (λ x. (x.0.now, x.1.tokens.now)) result (next.expect (k.Reserved word.now) room rest.entry.tokens.now) }
+    ensures { Reads (λ x. (x.0.now, x.1.tokens.now)) result
+        (next.expect (k.Reserved word.now) room rest.entry.tokens.now) }
 {
     if is_word(rest.tokens, word) {
         take(rest, room)
@@ -262,40 +286,47 @@ fn expect_word<'a>(
 
 /// A `for` (C11 6.8.5.3).
 #[cycle(statements)]
-fn counted(alloc: Global, rest: Rest, room: u32) -> Result<(Stmt, Rest), ParseFault>
+fn parse_for(alloc: Global, rest: Rest, room: u32) -> Result<(Stmt, Rest), ParseFault>
     requires { room ≤ 201 }
-    ensures { Gives (λ x. (view.statement x.0, x.1.tokens.now)) result (read.counted read.stated room rest.entry.tokens.now) }
+    ensures { Gives (λ x. (view.stmt_of x.0, x.1.tokens.now)) result
+        (read.for_stmt read.stated room rest.entry.tokens.now) }
 {
     let (word, rest) = take(rest, room)?;
     let (_, rest) = expect(*b"(\0\0", rest, room)?;
-    let (first, rest) = beginning(alloc, rest, room)?;
-    let (test, rest) = optional(alloc, *b";\0\0", rest, room)?;
-    let (step, rest) = optional(alloc, *b")\0\0", rest, room)?;
-    let (body, rest) = statement(alloc, rest, room)?;
+    let (first, rest) = parse_first(alloc, rest, room)?;
+    let (test, rest) = parse_optional(alloc, *b";\0\0", rest, room)?;
+    let (step, rest) = parse_optional(alloc, *b")\0\0", rest, room)?;
+    let (body, rest) = parse_stmt(alloc, rest, room)?;
     Ok((
-        node::counted(alloc, first, test, step, body, word.place)?,
+        node::build_for(alloc, first, test, step, body, word.place)?,
         rest,
     ))
 }
 
 /// A declaration or a statement.
 #[cycle(statements)]
-fn part(alloc: Global, rest: Rest, room: u32) -> Result<(Stmt, Rest), ParseFault>
+fn parse_block_item(alloc: Global, rest: Rest, room: u32) -> Result<(Stmt, Rest), ParseFault>
     requires { room ≤ 201 }
-    ensures { Gives (λ x. (view.statement x.0, x.1.tokens.now)) result (read.part read.stated room rest.entry.tokens.now) }
+    ensures { Gives (λ x. (view.stmt_of x.0, x.1.tokens.now)) result
+        (read.part read.stated room rest.entry.tokens.now) }
 {
     if is_base(rest.tokens) {
-        declaration(alloc, place_of(rest.tokens), rest, room)
+        parse_vars_stmt(alloc, place_of(rest.tokens), rest, room)
     } else {
-        statement(alloc, rest, room)
+        parse_stmt(alloc, rest, room)
     }
 }
 
 /// What stands in a block (C11 6.8.2), and the closing brace.
 #[cycle(statements)]
-pub(crate) fn body(alloc: Global, whole: Rest, room: u32) -> Result<(Vec<Stmt>, Rest), ParseFault>
+pub(crate) fn parse_body(
+    alloc: Global,
+    whole: Rest,
+    room: u32,
+) -> Result<(Vec<Stmt>, Rest), ParseFault>
     requires { room ≤ 201 }
-    ensures { Gives (λ x. (map view.statement x.0.items, x.1.tokens.now)) result (read.body read.stated room whole.entry.tokens.now) }
+    ensures { Gives (λ x. (map view.stmt_of x.0.items, x.1.tokens.now)) result
+        (read.body read.stated room whole.entry.tokens.now) }
 {
     let mut found = Vec::new(alloc);
     let mut rest = whole;
@@ -304,7 +335,7 @@ pub(crate) fn body(alloc: Global, whole: Rest, room: u32) -> Result<(Vec<Stmt>, 
             let (_, after) = take(rest, room)?;
             return Ok((found, after));
         }
-        let (one, after) = part(alloc, rest, room)?;
+        let (one, after) = parse_block_item(alloc, rest, room)?;
         found.push(one)?;
         rest = after;
     }

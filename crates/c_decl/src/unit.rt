@@ -4,10 +4,10 @@ ghost use Rattle.std.specs.Prelude.{◌≡◌, ◌≤◌, map};
 ghost use Rattle.c_tree.specs.View as view;
 ghost use Rattle.c_expr.specs.Parsing.{IsEnded};
 ghost use Rattle.c_expr.specs.Next.{Gives, kind_of};
-ghost use Rattle.c_decl.specs.UnitReading as read;
+ghost use Rattle.c_decl.specs.private.UnitReading as read;
 ghost use Rattle.c_decl.specs.Whole.{ParsedText};
 
-use crate::item::item;
+use crate::item::parse_item;
 use crate::rest::{Rest, take};
 use c_expr::{ParseFault, place_of};
 use c_token::{Kind, Token};
@@ -32,9 +32,10 @@ fn is_end(rest: &[Token]) -> bool
 }
 
 /// The items of a text and its end.
-fn unit(alloc: Global, whole: Rest, room: u32) -> Result<(Vec<Item>, Rest), ParseFault>
+fn parse_items(alloc: Global, whole: Rest, room: u32) -> Result<(Vec<Item>, Rest), ParseFault>
     requires { room ≤ 201 }
-    ensures { Gives (λ x. (map view.part x.0.items, x.1.tokens.now)) result (read.unit room whole.entry.tokens.now) }
+    ensures { Gives (λ x. (map view.item_of x.0.items, x.1.tokens.now)) result
+        (read.unit room whole.entry.tokens.now) }
 {
     let mut found = Vec::new(alloc);
     let mut rest = whole;
@@ -43,7 +44,7 @@ fn unit(alloc: Global, whole: Rest, room: u32) -> Result<(Vec<Item>, Rest), Pars
             let (_, after) = take(rest, room)?;
             return Ok((found, after));
         }
-        let (one, after) = item(alloc, rest, room)?;
+        let (one, after) = parse_item(alloc, rest, room)?;
         found.push(one)?;
         rest = after;
     }
@@ -55,7 +56,7 @@ pub fn parse(alloc: Global, tokens: &[Token]) -> Result<Tree, ParseFault>
     requires { IsEnded tokens.now }
     ensures { ParsedText tokens.now result }
 {
-    let (items, rest) = unit(alloc, Rest { tokens }, 201)?;
+    let (items, rest) = parse_items(alloc, Rest { tokens }, 201)?;
     match rest.tokens {
         [] => Ok(Tree { items }),
         [next, ..] => Err(ParseFault::Unexpected(next.place)),

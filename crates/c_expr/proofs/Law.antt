@@ -48,7 +48,8 @@ pub record Refuses {X I : Type 0} (m : ℕ) (P : List Leveled → X → List Tok
   pub more : List Leveled
   pub value : X
   pub holds : P (read ++ more) value []
-  pub again : (i : I) (b : List Token) → Looks rest b → q i (tokens_of read ++ b) ≡ Err (Unexpected (place_of b))
+  pub again : (i : I) (b : List Token) → Looks rest b
+      → q i (tokens_of read ++ b) ≡ Err (Unexpected (place_of b))
 
 pub record Exceeds {X : Type 0} (m : ℕ) (P : List Leveled → X → List Token → Type 0) (ts : List Token) (p : Place) : Type 0 where
   pub read : List Leveled
@@ -62,7 +63,8 @@ pub record Exceeds {X : Type 0} (m : ℕ) (P : List Leveled → X → List Token
   pub value : X
   pub holds : P (read ++ high ∷ more) value []
 
-abbrev pub Law : {X I : Type 0} → ℕ → (List Leveled → X → List Token → Type 0) → (I → List Token → Outcome X) → List Token → Outcome X → Type 0
+abbrev pub Law : {X I : Type 0} → ℕ → (List Leveled → X → List Token → Type 0)
+    → (I → List Token → Outcome X) → List Token → Outcome X → Type 0
 Law m P q ts (Ok x) = Reads m P q ts x.0 x.1
 Law m P q ts (Err (Unexpected p)) = Refuses m P q ts p
 Law m P q ts (Err (TooDeep p)) = Exceeds m P ts p
@@ -81,29 +83,35 @@ nothing_left : (xs ys : List Token) → [] ≡ xs ++ ys → ys ≡ []
 nothing_left [] ys e = sym e
 nothing_left (x ∷ xs) ys e = cc
 
-some_by : {X I : Type 0} (m : ℕ) (P : List Leveled → X → List Token → Type 0) (q : I → List Token → Outcome X) (o : Outcome X) → Law m P q [] o → Some_of P
+some_by : {X I : Type 0} (m : ℕ) (P : List Leveled → X → List Token → Type 0)
+    (q : I → List Token → Outcome X) (o : Outcome X) → Law m P q [] o → Some_of P
 some_by m P q (Ok x) h = record { spelling = h.read; value = x.0; holds = subst (P h.read x.0) (nothing_left (tokens_of h.read) x.1 h.splits) h.holds }
 some_by m P q (Err (Unexpected p)) h = record { spelling = h.read ++ h.more; value = h.value; holds = h.holds }
 some_by m P q (Err (TooDeep p)) h = record { spelling = h.read ++ h.high ∷ h.more; value = h.value; holds = h.holds }
 some_by m P q (Err OutOfMemory) h = absurd h
 
-pub some_of : {X I : Type 0} {m : ℕ} {P : List Leveled → X → List Token → Type 0} {q : I → List Token → Outcome X} {o : Outcome X} → Lawful m P q [] o → Some_of P
+pub some_of : {X I : Type 0} {m : ℕ} {P : List Leveled → X → List Token → Type 0}
+    {q : I → List Token → Outcome X} {o : Outcome X} → Lawful m P q [] o → Some_of P
 some_of {m = m} {P = P} {q = q} {o = o} h = some_by m P q o h.law
 
 -- where what follows does not matter
-abbrev pub plain : {X : Type 0} → (List Leveled → X → Type 0) → List Leveled → X → List Token → Type 0
+abbrev pub plain : {X : Type 0} → (List Leveled → X → Type 0) → List Leveled → X → List Token
+    → Type 0
 plain P a x us = P a x
 
-pub joined : (a c : List Leveled) (b : List Token) → tokens_of (a ++ c) ++ b ≡ tokens_of a ++ (tokens_of c ++ b)
+pub joined : (a c : List Leveled) (b : List Token)
+    → tokens_of (a ++ c) ++ b ≡ tokens_of a ++ (tokens_of c ++ b)
 joined a c b = ap (λ us. us ++ b) (tokens_append a c) ∙ append_assoc (tokens_of a) (tokens_of c) b
 
 -- what was read before
 module _ {X I : Type 0} (m : ℕ) (S : List Leveled → X → List Token → Type 0) (q g : I → List Token → Outcome X) (a : List Leveled) (ts rest : List Token)
     (splits : ts ≡ tokens_of a ++ rest) (low : AreLow m a) (onward : (i : I) (b : List Token) → Looks rest b → q i (tokens_of a ++ b) ≡ g i b) where
-  pub goes : (i : I) (c : List Leveled) (us b : List Token) → rest ≡ tokens_of c ++ us → Looks us b → q i (tokens_of (a ++ c) ++ b) ≡ g i (tokens_of c ++ b)
+  pub goes : (i : I) (c : List Leveled) (us b : List Token) → rest ≡ tokens_of c ++ us → Looks us b
+      → q i (tokens_of (a ++ c) ++ b) ≡ g i (tokens_of c ++ b)
   goes i c us b e h = ap (q i) (joined a c b) ∙ onward i (tokens_of c ++ b) (subst (λ vs. Looks vs (tokens_of c ++ b)) (sym e) (looks_append (tokens_of c) us b h))
 
-  pub whole : (c : List Leveled) (us : List Token) → rest ≡ tokens_of c ++ us → ts ≡ tokens_of (a ++ c) ++ us
+  pub whole : (c : List Leveled) (us : List Token) → rest ≡ tokens_of c ++ us
+      → ts ≡ tokens_of (a ++ c) ++ us
   whole c us e = splits ∙ ap (λ vs. tokens_of a ++ vs) e ∙ sym (joined a c us)
 
   pub after : (o : Outcome X) → Law m (λ b y us. S (a ++ b) y us) g rest o → Law m S q ts o
@@ -143,7 +151,8 @@ module _ {X I : Type 0} (m : ℕ) (S : List Leveled → X → List Token → Typ
 abbrev pub Cut : List Token → List Leveled → List Token → Type 0
 Cut ts a rest = (rest ≡ []) ⊎ (ts ≡ tokens_of a ++ rest)
 
-pub bind_law : {X Y I : Type 0} {m : ℕ} {P : List Leveled → X → List Token → Type 0} {S : List Leveled → Y → List Token → Type 0} {q : I → List Token → Outcome X} {ts : List Token}
+pub bind_law : {X Y I : Type 0} {m : ℕ} {P : List Leveled → X → List Token → Type 0}
+    {S : List Leveled → Y → List Token → Type 0} {q : I → List Token → Outcome X} {ts : List Token}
     {o : Outcome X} (g : I → X × List Token → Outcome Y) (f : X × List Token → Outcome Y)
     → Lawful m P q ts o → ((x : X) (rest : List Token) (a : List Leveled) → P a x rest → Cut ts a rest → Lawful m (λ b y us. S (a ++ b) y us) (λ i b. g i (x, b)) rest (f (x, rest)))
     → Lawful m S (λ i b. q i b >>= g i) ts (o >>= f)
@@ -176,7 +185,9 @@ bind_law {m = m} {P = P} {S = S} {q = q} {ts = ts} {o = o} g f h next = record {
     }
     go (Err OutOfMemory) h = absurd h
 
-pub weaken : {X I : Type 0} {m : ℕ} {P : List Leveled → X → List Token → Type 0} (Q : List Leveled → X → List Token → Type 0) {q : I → List Token → Outcome X} (q' : I → List Token → Outcome X) {ts : List Token} {o : Outcome X}
+pub weaken : {X I : Type 0} {m : ℕ} {P : List Leveled → X → List Token → Type 0}
+    (Q : List Leveled → X → List Token → Type 0) {q : I → List Token → Outcome X}
+    (q' : I → List Token → Outcome X) {ts : List Token} {o : Outcome X}
     → ((b : List Leveled) (y : X) (us : List Token) → P b y us → Q b y us) → ((i : I) (b : List Token) → q i b ≡ q' i b) → Lawful m P q ts o → Lawful m Q q' ts o
 weaken {m = m} {P = P} Q {q = q} q' {ts = ts} {o = o} into same h = record { law = go o h.law }
   where
@@ -207,14 +218,17 @@ weaken {m = m} {P = P} Q {q = q} q' {ts = ts} {o = o} into same h = record { law
     }
     go (Err OutOfMemory) h = absurd h
 
-pub pure_law : {Y I : Type 0} {m : ℕ} {S : List Leveled → Y → List Token → Type 0} (y : Y) (ts : List Token) → S [] y ts → Lawful {I = I} m S (λ i b. Ok (y, b)) ts (Ok (y, ts))
+pub pure_law : {Y I : Type 0} {m : ℕ} {S : List Leveled → Y → List Token → Type 0} (y : Y)
+    (ts : List Token) → S [] y ts → Lawful {I = I} m S (λ i b. Ok (y, b)) ts (Ok (y, ts))
 pure_law y ts holds = record { law = record { read = []; splits = refl; low = tt; holds = holds; again = λ i b l. refl } }
 
-pub ended : {Y : Type 0} (S : List Leveled → Y → Type 0) {b : List Leveled} {y : Y} → S b y → S (b ++ []) y
+pub ended : {Y : Type 0} (S : List Leveled → Y → Type 0) {b : List Leveled} {y : Y} → S b y
+    → S (b ++ []) y
 ended S {b = b} {y = y} h = subst (λ c. S c y) (sym (append-nil b)) h
 
 -- Nothing more is read.
-pub stop_law : {Y I : Type 0} {m : ℕ} {S : List Leveled → Y → List Token → Type 0} (body : I → Kind → List Token → Outcome Y) (kind : Kind) (ts : List Token) (y : Y)
+pub stop_law : {Y I : Type 0} {m : ℕ} {S : List Leveled → Y → List Token → Type 0}
+    (body : I → Kind → List Token → Outcome Y) (kind : Kind) (ts : List Token) (y : Y)
     → kind_of ts ≡ kind → S [] y ts → ((i : I) (b : List Token) → body i kind b ≡ Ok (y, b)) → ((i : I) → body i k.End [] ≡ Ok (y, []))
     → Lawful m S (λ i b. body i (kind_of b) b) ts (Ok (y, ts))
 stop_law {S = S} body kind ts y is holds here at_end = record {
@@ -227,13 +241,15 @@ stop_law {S = S} body kind ts y is holds here at_end = record {
   };
 }
   where
-    go : (i : _) (ts b : List Token) → Looks ts b → kind_of ts ≡ kind → body i (kind_of b) b ≡ Ok (y, b)
+    go : (i : _) (ts b : List Token) → Looks ts b → kind_of ts ≡ kind
+        → body i (kind_of b) b ≡ Ok (y, b)
     go i ts [] l is = at_end i
     go i [] (x ∷ b) l is = absurd l
     go i (t ∷ ts) (x ∷ b) l is = subst (λ c. body i c (x ∷ b) ≡ Ok (y, x ∷ b)) (sym is ∙ ap (λ (u : Token). u.kind) l) (here i (x ∷ b))
 
 -- The next token is refused.
-pub refuse_law : {Y I : Type 0} {m : ℕ} {S : List Leveled → Y → List Token → Type 0} (body : I → Kind → List Token → Outcome Y) (kind : Kind) (ts : List Token)
+pub refuse_law : {Y I : Type 0} {m : ℕ} {S : List Leveled → Y → List Token → Type 0}
+    (body : I → Kind → List Token → Outcome Y) (kind : Kind) (ts : List Token)
     → kind_of ts ≡ kind → Some_of S → ((i : I) (b : List Token) → body i kind b ≡ refuse b) → ((i : I) → body i k.End [] ≡ refuse [])
     → Lawful m S (λ i b. body i (kind_of b) b) ts (refuse ts)
 refuse_law {S = S} body kind ts is some here at_end = record {
@@ -250,13 +266,16 @@ refuse_law {S = S} body kind ts is some here at_end = record {
   };
 }
   where
-    go : (i : _) (ts b : List Token) → Looks ts b → kind_of ts ≡ kind → body i (kind_of b) b ≡ refuse b
+    go : (i : _) (ts b : List Token) → Looks ts b → kind_of ts ≡ kind
+        → body i (kind_of b) b ≡ refuse b
     go i ts [] l is = at_end i
     go i [] (x ∷ b) l is = absurd l
     go i (t ∷ ts) (x ∷ b) l is = subst (λ c. body i c (x ∷ b) ≡ refuse (x ∷ b)) (sym is ∙ ap (λ (u : Token). u.kind) l) (here i (x ∷ b))
 
 -- A token is taken, but its level is too high.
-pub deep_law : {Y I : Type 0} {S : List Leveled → Y → List Token → Type 0} {q : I → List Token → Outcome Y} (f : Token × List Token → Outcome Y) (m l : ℕ) (kind : Kind) (ts : List Token)
+pub deep_law : {Y I : Type 0} {S : List Leveled → Y → List Token → Type 0}
+    {q : I → List Token → Outcome Y} (f : Token × List Token → Outcome Y) (m l : ℕ) (kind : Kind)
+    (ts : List Token)
     → 0 ≡ m - l → kind_of ts ≡ kind → (kind ≡ k.End → ⊥) → ((p : Place) → Some_of (λ b y us. S (at l kind p ∷ b) y us))
     → Lawful m S q ts (take zero ts >>= f)
 deep_law f m l kind [] room is some next = absurd (some (sym is))
@@ -282,7 +301,10 @@ take_some zero t b h = absurd (omega arith)
 take_some (suc r) t b h = refl
 
 -- A token is taken, at this level.
-pub take_law : {Y I : Type 0} {S : List Leveled → Y → List Token → Type 0} (q : I → List Token → Outcome Y) (g : I → Token × List Token → Outcome Y) (f : Token × List Token → Outcome Y) (m l r : ℕ) (r' : I → ℕ) (kind : Kind) (ts : List Token)
+pub take_law : {Y I : Type 0} {S : List Leveled → Y → List Token → Type 0}
+    (q : I → List Token → Outcome Y) (g : I → Token × List Token → Outcome Y)
+    (f : Token × List Token → Outcome Y) (m l r : ℕ) (r' : I → ℕ) (kind : Kind)
+    (ts : List Token)
     → r ≡ m - l → ((i : I) → r ≤ r' i) → kind_of ts ≡ kind → (kind ≡ k.End → ⊥)
     → ((i : I) (p : Place) (b : List Token) → q i (record { kind = kind; place = p } ∷ b) ≡ (take (r' i) (record { kind = kind; place = p } ∷ b) >>= g i))
     → ((p : Place) (rest : List Token) → Lawful m (λ b y us. S (at l kind p ∷ b) y us) (λ i b. g i (record { kind = kind; place = p }, b)) rest (f (record { kind = kind; place = p }, rest)))
@@ -299,7 +321,9 @@ take_law {S = S} q g f m l (suc r) r' kind (t ∷ ts) room more is some same nex
     }
 
 -- Nothing is left, and something is missing.
-pub end_law : {Y I : Type 0} {m : ℕ} {S : List Leveled → Y → List Token → Type 0} (q : I → List Token → Outcome Y) → Some_of S → ((i : I) → q i [] ≡ refuse []) → Lawful m S q [] (refuse [])
+pub end_law : {Y I : Type 0} {m : ℕ} {S : List Leveled → Y → List Token → Type 0}
+    (q : I → List Token → Outcome Y) → Some_of S → ((i : I) → q i [] ≡ refuse [])
+    → Lawful m S q [] (refuse [])
 end_law {I = I} q some at_end = record {
   law = record {
     read = [];
@@ -319,18 +343,22 @@ end_law {I = I} q some at_end = record {
     go i (y ∷ b) l = absurd l
 
 -- A reader that takes what another takes at the kind of the next token.
-pub look_law : {Y I : Type 0} {m : ℕ} (S : List Leveled → Y → List Token → Type 0) (body : I → Kind → List Token → Outcome Y) (kind : Kind) (ts : List Token) (o : Outcome Y)
+pub look_law : {Y I : Type 0} {m : ℕ} (S : List Leveled → Y → List Token → Type 0)
+    (body : I → Kind → List Token → Outcome Y) (kind : Kind) (ts : List Token) (o : Outcome Y)
     → kind_of ts ≡ kind → Lawful m S (λ i. body i kind) ts o → ((i : I) → body i k.End [] ≡ body i kind [])
     → Lawful m S (λ i b. body i (kind_of b) b) ts o
 look_law {Y = Y} {I = I} {m = m} S body kind ts o is h at_end = record { law = go o h.law }
   where
-    same : (i : I) (a : List Leveled) (rest b : List Token) → ts ≡ tokens_of a ++ rest → Looks rest b → body i (kind_of (tokens_of a ++ b)) (tokens_of a ++ b) ≡ body i kind (tokens_of a ++ b)
+    same : (i : I) (a : List Leveled) (rest b : List Token) → ts ≡ tokens_of a ++ rest
+        → Looks rest b → body i (kind_of (tokens_of a ++ b)) (tokens_of a ++ b)
+        ≡ body i kind (tokens_of a ++ b)
     same i [] rest [] e l = at_end i
     same i [] [] (y ∷ b) e l = absurd l
     same i [] (t ∷ rest) (y ∷ b) e l = ap (λ c. body i c (y ∷ b)) (sym (ap (λ (u : Token). u.kind) l) ∙ sym (ap kind_of e) ∙ is)
     same i (x ∷ a) rest b e l = ap (λ c. body i c (x.token ∷ (tokens_of a ++ b))) (sym (ap kind_of e) ∙ is)
 
-    go : (o : Outcome Y) → Law m S (λ i. body i kind) ts o → Law m S (λ i b. body i (kind_of b) b) ts o
+    go : (o : Outcome Y) → Law m S (λ i. body i kind) ts o
+        → Law m S (λ i b. body i (kind_of b) b) ts o
     go (Ok x) h = record { read = h.read; splits = h.splits; low = h.low; holds = h.holds; again = λ i b l. same i h.read x.1 b h.splits l ∙ h.again i b l }
     go (Err (Unexpected p)) h = record {
       read = h.read;
@@ -358,18 +386,22 @@ look_law {Y = Y} {I = I} {m = m} S body kind ts o is h at_end = record { law = g
     go (Err OutOfMemory) h = absurd h
 
 -- A reader that takes what another takes at the place of the next token.
-pub place_law : {Y I : Type 0} {m : ℕ} (S : List Leveled → Y → List Token → Type 0) (body : I → Place → List Token → Outcome Y) (place : Place) (ts : List Token) (o : Outcome Y)
+pub place_law : {Y I : Type 0} {m : ℕ} (S : List Leveled → Y → List Token → Type 0)
+    (body : I → Place → List Token → Outcome Y) (place : Place) (ts : List Token) (o : Outcome Y)
     → place_of ts ≡ place → Lawful m S (λ i. body i place) ts o → ((i : I) → body i nowhere [] ≡ body i place [])
     → Lawful m S (λ i b. body i (place_of b) b) ts o
 place_law {Y = Y} {I = I} {m = m} S body place ts o is h at_end = record { law = go o h.law }
   where
-    same : (i : I) (a : List Leveled) (rest b : List Token) → ts ≡ tokens_of a ++ rest → Looks rest b → body i (place_of (tokens_of a ++ b)) (tokens_of a ++ b) ≡ body i place (tokens_of a ++ b)
+    same : (i : I) (a : List Leveled) (rest b : List Token) → ts ≡ tokens_of a ++ rest
+        → Looks rest b → body i (place_of (tokens_of a ++ b)) (tokens_of a ++ b)
+        ≡ body i place (tokens_of a ++ b)
     same i [] rest [] e l = at_end i
     same i [] [] (y ∷ b) e l = absurd l
     same i [] (t ∷ rest) (y ∷ b) e l = ap (λ c. body i c (y ∷ b)) (sym (ap (λ (u : Token). u.place) l) ∙ sym (ap place_of e) ∙ is)
     same i (x ∷ a) rest b e l = ap (λ c. body i c (x.token ∷ (tokens_of a ++ b))) (sym (ap place_of e) ∙ is)
 
-    go : (o : Outcome Y) → Law m S (λ i. body i place) ts o → Law m S (λ i b. body i (place_of b) b) ts o
+    go : (o : Outcome Y) → Law m S (λ i. body i place) ts o
+        → Law m S (λ i b. body i (place_of b) b) ts o
     go (Ok x) h = record { read = h.read; splits = h.splits; low = h.low; holds = h.holds; again = λ i b l. same i h.read x.1 b h.splits l ∙ h.again i b l }
     go (Err (Unexpected p)) h = record {
       read = h.read;

@@ -8,76 +8,99 @@ use Rattle.c_tree.specs.declared.operator.Unary.{Unary}
 use Rattle.c_tree.specs.declared.place.Place.{Place}
 use Rattle.c_tree.specs.declared.tree.Callee.{Callee}
 use Rattle.c_tree.specs.declared.tree.Callee.TheVariants as c
-use Rattle.c_tree.specs.Syntax.{Shape, UnsignedShape, CharShape, Expression, Variable, Numeral, Letter, EndOfFile, Prefix, Stepped, Converted, Infix, Choice, Stored, Element, Called}
-use Rattle.c_tree.specs.View.{shape, row}
+use Rattle.c_tree.specs.Ty.{Ty}
+use Rattle.c_tree.specs.Ty as the_ty
+use Rattle.c_tree.specs.Expr.{Expr}
+use Rattle.c_tree.specs.Expr as expr
+use Rattle.c_tree.specs.View.{ty_of, exprs_list}
 use Rattle.c_token.specs.declared.token.Kind.{Kind}
 use Rattle.c_token.specs.declared.token.Kind.TheVariants as k
 use Rattle.c_expr.specs.Leveled.{Leveled, at}
-use Rattle.c_expr.specs.Spelled.{sign, assign_op, binary_op, rank, lor, prefix_op, first_step, last_step, builtin, plain_base}
+use Rattle.c_expr.specs.Spelled.{sign, assign_op, binary_op, rank, lor, unary_op, first_step, last_step, builtin, plain_base}
 
 -- base (C11 6.7.2); the type `unsigned char` is `char`
-pub data IsBase : ℕ → List Leveled → Shape → Type 0 where
-  plain : {l : ℕ} {kind : Kind} {p : Place} {to : Shape} → plain_base kind ≡ Some to → IsBase l (at l kind p ∷ []) to
-  unsigned : {l : ℕ} {p : Place} → IsBase l (at l (k.Reserved (codes "unsigned")) p ∷ []) UnsignedShape
-  unsigned_int : {l : ℕ} {p q : Place} → IsBase l (at l (k.Reserved (codes "unsigned")) p ∷ (at l (k.Reserved (codes "int")) q ∷ [])) UnsignedShape
-  unsigned_char : {l : ℕ} {p q : Place} → IsBase l (at l (k.Reserved (codes "unsigned")) p ∷ (at l (k.Reserved (codes "char")) q ∷ [])) CharShape
+pub data IsBase : ℕ → List Leveled → Ty → Type 0 where
+  plain : {l : ℕ} {kind : Kind} {p : Place} {to : Ty} → plain_base kind ≡ Some to
+      → IsBase l (at l kind p ∷ []) to
+  unsigned : {l : ℕ} {p : Place}
+      → IsBase l (at l (k.Reserved (codes "unsigned")) p ∷ []) the_ty.Unsigned
+  unsigned_int : {l : ℕ} {p q : Place}
+      → IsBase l (at l (k.Reserved (codes "unsigned")) p
+      ∷ (at l (k.Reserved (codes "int")) q ∷ [])) the_ty.Unsigned
+  unsigned_char : {l : ℕ} {p q : Place}
+      → IsBase l (at l (k.Reserved (codes "unsigned")) p
+      ∷ (at l (k.Reserved (codes "char")) q ∷ [])) the_ty.Char
 
 mutual
   -- assign (C11 6.5.16)
-  pub data IsAssign : ℕ → List Leveled → Expression → Type 0 where
-    cond : {l : ℕ} {a : List Leveled} {x : Expression} → IsCond (suc l) a x → IsAssign l a x
-    assign : {l : ℕ} {p : Place} {how : Option Binary} {a b : List Leveled} {x y : Expression} (kind : Kind)
+  pub data IsAssign : ℕ → List Leveled → Expr → Type 0 where
+    cond : {l : ℕ} {a : List Leveled} {x : Expr} → IsCond (suc l) a x → IsAssign l a x
+    assign : {l : ℕ} {p : Place} {how : Option Binary} {a b : List Leveled} {x y : Expr}
+        (kind : Kind)
         → IsCond (suc l) a x → assign_op kind ≡ Some how → IsAssign (suc l) b y
-        → IsAssign l (a ++ at (suc l) kind p ∷ b) (Stored how x y p)
+        → IsAssign l (a ++ at (suc l) kind p ∷ b) (expr.Assign how x y p)
 
   -- cond (C11 6.5.15)
-  pub data IsCond : ℕ → List Leveled → Expression → Type 0 where
-    binary : {l : ℕ} {a : List Leveled} {x : Expression} → IsBinary lor (suc l) a x → IsCond l a x
-    choice : {l : ℕ} {p : Place} {a b c : List Leveled} {x y z : Expression} (q : Place)
+  pub data IsCond : ℕ → List Leveled → Expr → Type 0 where
+    binary : {l : ℕ} {a : List Leveled} {x : Expr} → IsBinary lor (suc l) a x → IsCond l a x
+    conditional : {l : ℕ} {p : Place} {a b c : List Leveled} {x y z : Expr} (q : Place)
         → IsBinary lor (suc l) a x → IsAssign (suc l) b y → IsCond (suc l) c z
-        → IsCond l (a ++ at (suc l) (sign (codes "?")) p ∷ (b ++ at (suc l) (sign (codes ":")) q ∷ c)) (Choice x y z p)
+        → IsCond l (a ++ at (suc l) (sign (codes "?")) p
+        ∷ (b ++ at (suc l) (sign (codes ":")) q ∷ c)) (expr.Conditional x y z p)
 
   -- lor to mul (C11 6.5.5 to 6.5.14): operands joined by operators of the rule of this rank, or of a tighter one
-  pub data IsBinary : ℕ → ℕ → List Leveled → Expression → Type 0 where
-    unary : {l : ℕ} {a : List Leveled} {x : Expression} → IsUnary l a x → IsBinary zero l a x
-    chain : {r l n : ℕ} {a : List Leveled} {x : Expression} → IsChain r l n a x → IsBinary (suc r) l a x
+  pub data IsBinary : ℕ → ℕ → List Leveled → Expr → Type 0 where
+    unary : {l : ℕ} {a : List Leveled} {x : Expr} → IsUnary l a x → IsBinary zero l a x
+    chain : {r l n : ℕ} {a : List Leveled} {x : Expr} → IsChain r l n a x → IsBinary (suc r) l a x
 
   -- An iteration, which groups to the left. The third number is that of its operators so far, each of which adds a level to what follows.
-  pub data IsChain : ℕ → ℕ → ℕ → List Leveled → Expression → Type 0 where
-    first : {r l : ℕ} {a : List Leveled} {x : Expression} → IsBinary r l a x → IsChain r l zero a x
-    next : {r l n : ℕ} {p : Place} {o : Binary} {a b : List Leveled} {x y : Expression} (kind : Kind)
-        → IsChain r l n a x → binary_op kind ≡ Some o → rank o ≡ suc r → IsBinary r (suc (l + n)) b y
-        → IsChain r l (suc n) (a ++ at (l + n) kind p ∷ b) (Infix o x y p)
+  pub data IsChain : ℕ → ℕ → ℕ → List Leveled → Expr → Type 0 where
+    first : {r l : ℕ} {a : List Leveled} {x : Expr} → IsBinary r l a x → IsChain r l zero a x
+    next : {r l n : ℕ} {p : Place} {o : Binary} {a b : List Leveled} {x y : Expr} (kind : Kind)
+        → IsChain r l n a x → binary_op kind ≡ Some o → rank o ≡ suc r
+        → IsBinary r (suc (l + n)) b y
+        → IsChain r l (suc n) (a ++ at (l + n) kind p ∷ b) (expr.Binary o x y p)
 
   -- unary (C11 6.5.3 and 6.5.4)
-  pub data IsUnary : ℕ → List Leveled → Expression → Type 0 where
-    prefix : {l : ℕ} {p : Place} {kind : Kind} {o : Unary} {a : List Leveled} {x : Expression}
-        → prefix_op kind ≡ Some o → IsUnary (suc l) a x → IsUnary l (at (suc l) kind p ∷ a) (Prefix o x p)
-    step : {l : ℕ} {p : Place} {kind : Kind} {how : Step} {a : List Leveled} {x : Expression}
-        → first_step kind ≡ Some how → IsUnary (suc l) a x → IsUnary l (at (suc l) kind p ∷ a) (Stepped how x p)
-    cast : {l : ℕ} {p : Place} {a b : List Leveled} {to : Shape} {x : Expression} (q : Place)
+  pub data IsUnary : ℕ → List Leveled → Expr → Type 0 where
+    prefix : {l : ℕ} {p : Place} {kind : Kind} {o : Unary} {a : List Leveled} {x : Expr}
+        → unary_op kind ≡ Some o → IsUnary (suc l) a x
+        → IsUnary l (at (suc l) kind p ∷ a) (expr.Unary o x p)
+    step : {l : ℕ} {p : Place} {kind : Kind} {how : Step} {a : List Leveled} {x : Expr}
+        → first_step kind ≡ Some how → IsUnary (suc l) a x
+        → IsUnary l (at (suc l) kind p ∷ a) (expr.Step how x p)
+    cast : {l : ℕ} {p : Place} {a b : List Leveled} {to : Ty} {x : Expr} (q : Place)
         → IsBase (suc l) a to → IsUnary (suc l) b x
-        → IsUnary l (at (suc l) (sign (codes "(")) p ∷ (a ++ at (suc l) (sign (codes ")")) q ∷ b)) (Converted to x p)
-    postfix : {l n : ℕ} {a : List Leveled} {x : Expression} → IsPostfix (suc l) n a x → IsUnary l a x
+        → IsUnary l (at (suc l) (sign (codes "(")) p ∷ (a ++ at (suc l) (sign (codes ")")) q ∷ b))
+        (expr.Cast to x p)
+    postfix : {l n : ℕ} {a : List Leveled} {x : Expr} → IsPostfix (suc l) n a x → IsUnary l a x
 
   -- postfix (C11 6.5.2). The second number is that of the suffixes so far, each of which adds a level to what follows it.
-  pub data IsPostfix : ℕ → ℕ → List Leveled → Expression → Type 0 where
-    primary : {l : ℕ} {a : List Leveled} {x : Expression} → IsPrimary l a x → IsPostfix l zero a x
-    index : {l n : ℕ} {p : Place} {a b : List Leveled} {x y : Expression} (q : Place) → IsPostfix l n a x → IsAssign (l + n) b y
-        → IsPostfix l (suc n) (a ++ at (l + n) (sign (codes "[")) p ∷ (b ++ at (l + n) (sign (codes "]")) q ∷ [])) (Element x y p)
-    step_last : {l n : ℕ} {p : Place} {how : Step} {a : List Leveled} {x : Expression} (kind : Kind)
-        → IsPostfix l n a x → last_step kind ≡ Some how → IsPostfix l (suc n) (a ++ at (l + n) kind p ∷ []) (Stepped how x p)
+  pub data IsPostfix : ℕ → ℕ → List Leveled → Expr → Type 0 where
+    primary : {l : ℕ} {a : List Leveled} {x : Expr} → IsPrimary l a x → IsPostfix l zero a x
+    index : {l n : ℕ} {p : Place} {a b : List Leveled} {x y : Expr} (q : Place) → IsPostfix l n a x
+        → IsAssign (l + n) b y
+        → IsPostfix l (suc n) (a ++ at (l + n) (sign (codes "[")) p
+        ∷ (b ++ at (l + n) (sign (codes "]")) q ∷ [])) (expr.Index x y p)
+    step_last : {l n : ℕ} {p : Place} {how : Step} {a : List Leveled} {x : Expr} (kind : Kind)
+        → IsPostfix l n a x → last_step kind ≡ Some how
+        → IsPostfix l (suc n) (a ++ at (l + n) kind p ∷ []) (expr.Step how x p)
 
   -- primary (C11 6.5.1 and 6.5.2.2)
-  pub data IsPrimary : ℕ → List Leveled → Expression → Type 0 where
-    call : {l : ℕ} {p : Place} {kind : Kind} {callee : Callee} {a : List Leveled} {xs : List Expression} (q r : Place)
+  pub data IsPrimary : ℕ → List Leveled → Expr → Type 0 where
+    call : {l : ℕ} {p : Place} {kind : Kind} {callee : Callee} {a : List Leveled} {xs : List Expr}
+        (q r : Place)
         → IsCallee kind callee → IsArguments l a xs
-        → IsPrimary l (at l kind p ∷ (at l (sign (codes "(")) q ∷ (a ++ at l (sign (codes ")")) r ∷ []))) (Called callee (row xs) p)
-    name : {l : ℕ} {p : Place} {n : List ℕ} → IsPrimary l (at l (k.Name n) p ∷ []) (Variable n p)
-    eof : {l : ℕ} {p : Place} → IsPrimary l (at l (k.Reserved (codes "EOF")) p ∷ []) (EndOfFile p)
-    number : {l v : ℕ} {ty : CType} {p : Place} → IsPrimary l (at l (k.Number ty v) p ∷ []) (Numeral (shape ty) v p)
-    character : {l v : ℕ} {p : Place} → IsPrimary l (at l (k.Character v) p ∷ []) (Letter v p)
-    parens : {l : ℕ} {a : List Leveled} {x : Expression} (p q : Place) → IsAssign l a x
+        → IsPrimary l (at l kind p
+        ∷ (at l (sign (codes "(")) q ∷ (a ++ at l (sign (codes ")")) r ∷ [])))
+        (expr.Call callee (exprs_list xs) p)
+    name : {l : ℕ} {p : Place} {n : List ℕ} → IsPrimary l (at l (k.Name n) p ∷ []) (expr.Name n p)
+    eof : {l : ℕ} {p : Place} → IsPrimary l (at l (k.Reserved (codes "EOF")) p ∷ []) (expr.Eof p)
+    number : {l v : ℕ} {ty : CType} {p : Place}
+        → IsPrimary l (at l (k.Number ty v) p ∷ []) (expr.Number (ty_of ty) v p)
+    character : {l v : ℕ} {p : Place}
+        → IsPrimary l (at l (k.Character v) p ∷ []) (expr.Character v p)
+    parens : {l : ℕ} {a : List Leveled} {x : Expr} (p q : Place) → IsAssign l a x
         → IsPrimary l (at l (sign (codes "(")) p ∷ (a ++ at l (sign (codes ")")) q ∷ [])) x
 
   -- callee
@@ -86,12 +109,13 @@ mutual
     built_in : {kind : Kind} {callee : Callee} → builtin kind ≡ Some callee → IsCallee kind callee
 
   -- the arguments of a call
-  pub data IsArguments : ℕ → List Leveled → List Expression → Type 0 where
+  pub data IsArguments : ℕ → List Leveled → List Expr → Type 0 where
     none : {l : ℕ} → IsArguments l [] []
-    some : {l : ℕ} {a : List Leveled} {xs : List Expression} → IsListed l a xs → IsArguments l a xs
+    some : {l : ℕ} {a : List Leveled} {xs : List Expr} → IsListed l a xs → IsArguments l a xs
 
   -- one expression or more, with commas between them
-  pub data IsListed : ℕ → List Leveled → List Expression → Type 0 where
-    one : {l : ℕ} {a : List Leveled} {x : Expression} → IsAssign l a x → IsListed l a (x ∷ [])
-    more : {l : ℕ} {a b : List Leveled} {x : Expression} {xs : List Expression} (p : Place) → IsAssign l a x → IsListed l b xs
+  pub data IsListed : ℕ → List Leveled → List Expr → Type 0 where
+    one : {l : ℕ} {a : List Leveled} {x : Expr} → IsAssign l a x → IsListed l a (x ∷ [])
+    more : {l : ℕ} {a b : List Leveled} {x : Expr} {xs : List Expr} (p : Place) → IsAssign l a x
+        → IsListed l b xs
         → IsListed l (a ++ at l (sign (codes ",")) p ∷ b) (x ∷ xs)

@@ -1,7 +1,6 @@
-pub mod Leveled
-pub mod Spelled
 pub mod Grammar
-pub mod Parsing
+pub mod Leveled
 pub mod Next
-pub mod Reading
-pub mod Rules
+pub mod Parsing
+pub mod Spelled
+pub mod private

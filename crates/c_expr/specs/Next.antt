@@ -4,13 +4,14 @@ use Rattle.c_tree.specs.declared.operator.Step.{Step}
 use Rattle.c_tree.specs.declared.operator.Unary.{Unary}
 use Rattle.c_tree.specs.declared.place.Place.{Place}
 use Rattle.c_tree.specs.declared.tree.Callee.{Callee}
-use Rattle.c_tree.specs.Syntax.{Shape, IntShape, UnsignedShape}
+use Rattle.c_tree.specs.Ty.{Ty}
+use Rattle.c_tree.specs.Ty as the_ty
 use Rattle.c_token.specs.declared.token.Kind.{Kind}
 use Rattle.c_token.specs.declared.token.Kind.TheVariants as k
 use Rattle.c_token.specs.declared.token.Token.{Token}
 use Rattle.c_expr.specs.declared.fault.ParseFault.{ParseFault}
 use Rattle.c_expr.specs.declared.fault.ParseFault.TheVariants.{Unexpected, TooDeep, OutOfMemory}
-use Rattle.c_expr.specs.Spelled.{sign, same, prefix_op, first_step, builtin, plain_base}
+use Rattle.c_expr.specs.Spelled.{sign, same, unary_op, first_step, builtin, plain_base}
 
 abbrev pub Outcome : Type 0 → Type 0
 Outcome X = Result (X × List Token) ParseFault
@@ -83,24 +84,25 @@ abbrev pub closes : Kind → Bool
 closes kind = same kind (sign (codes ")"))
 
 abbrev pub begins : Kind → Bool
-begins kind = begins_by (prefix_op kind) (first_step kind) (opens kind) (operand_by kind (is_eof kind) (builtin kind))
+begins kind = begins_by (unary_op kind) (first_step kind) (opens kind)
+    (operand_by kind (is_eof kind) (builtin kind))
 
 -- where no rule may be opened any more
 abbrev pub fault_at_start : List Token → ParseFault
 fault_at_start ts = if begins (kind_of ts) then TooDeep (place_of ts) else Unexpected (place_of ts)
 
-abbrev pub unsigned_of : Shape → Shape
-unsigned_of IntShape = UnsignedShape
+abbrev pub unsigned_of : Ty → Ty
+unsigned_of the_ty.Int = the_ty.Unsigned
 unsigned_of other = other
 
 -- Behind `unsigned`
-abbrev pub after_unsigned : Option Shape → ℕ → List Token → Outcome Shape
-after_unsigned None r ts = Ok (UnsignedShape, ts)
+abbrev pub after_unsigned : Option Ty → ℕ → List Token → Outcome Ty
+after_unsigned None r ts = Ok (the_ty.Unsigned, ts)
 after_unsigned (Some to) r ts = do
   word ← take r ts
   Ok (unsigned_of to, word.1)
 
-abbrev pub base_by : Option Shape → Bool → ℕ → List Token → Outcome Shape
+abbrev pub base_by : Option Ty → Bool → ℕ → List Token → Outcome Ty
 base_by (Some to) unsigned r ts = do
   word ← take r ts
   Ok (to, word.1)
@@ -112,10 +114,10 @@ base_by None false r ts = refuse ts
 abbrev pub is_unsigned : Kind → Bool
 is_unsigned kind = same kind (k.Reserved (codes "unsigned"))
 
-abbrev pub base : ℕ → List Token → Outcome Shape
+abbrev pub base : ℕ → List Token → Outcome Ty
 base r ts = base_by (plain_base (kind_of ts)) (is_unsigned (kind_of ts)) r ts
 
-abbrev pub is_base_by : Option Shape → Bool → Bool
+abbrev pub is_base_by : Option Ty → Bool → Bool
 is_base_by (Some to) unsigned = true
 is_base_by None unsigned = unsigned
 

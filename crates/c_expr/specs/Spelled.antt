@@ -9,7 +9,8 @@ use Rattle.c_tree.specs.declared.operator.Unary.{Unary}
 use Rattle.c_tree.specs.declared.operator.Unary.TheVariants as u
 use Rattle.c_tree.specs.declared.tree.Callee.{Callee}
 use Rattle.c_tree.specs.declared.tree.Callee.TheVariants as c
-use Rattle.c_tree.specs.Syntax.{Shape, IntShape, CharShape}
+use Rattle.c_tree.specs.Ty.{Ty}
+use Rattle.c_tree.specs.Ty as ty
 use Rattle.c_token.specs.declared.token.Kind.{Kind}
 use Rattle.c_token.specs.declared.token.Kind.TheVariants as k
 use Rattle.c_token.specs.Signs.{padded}
@@ -30,9 +31,12 @@ find (x ∷ xs) kind = if same kind x.0 then Some x.1 else find xs kind
 -- assignment operators (C11 6.5.16); None is `=`
 abbrev pub assign_ops : List (Kind × Option Binary)
 assign_ops =
-    (sign (codes "="), None) ∷ (sign (codes "*="), Some b.Times) ∷ (sign (codes "/="), Some b.Divide) ∷ (sign (codes "%="), Some b.Rest)
-    ∷ (sign (codes "+="), Some b.Plus) ∷ (sign (codes "-="), Some b.Minus) ∷ (sign (codes "<<="), Some b.Left) ∷ (sign (codes ">>="), Some b.Right)
-    ∷ (sign (codes "&="), Some b.BitAnd) ∷ (sign (codes "^="), Some b.BitXor) ∷ (sign (codes "|="), Some b.BitOr) ∷ []
+    (sign (codes "="), None) ∷ (sign (codes "*="), Some b.Times)
+    ∷ (sign (codes "/="), Some b.Divide) ∷ (sign (codes "%="), Some b.Rest)
+    ∷ (sign (codes "+="), Some b.Plus) ∷ (sign (codes "-="), Some b.Minus)
+    ∷ (sign (codes "<<="), Some b.Left) ∷ (sign (codes ">>="), Some b.Right)
+    ∷ (sign (codes "&="), Some b.BitAnd) ∷ (sign (codes "^="), Some b.BitXor)
+    ∷ (sign (codes "|="), Some b.BitOr) ∷ []
 
 abbrev pub assign_op : Kind → Option (Option Binary)
 assign_op = find assign_ops
@@ -40,10 +44,13 @@ assign_op = find assign_ops
 -- binary operators (C11 6.5.5 to 6.5.14)
 abbrev pub binary_ops : List (Kind × Binary)
 binary_ops =
-    (sign (codes "||"), b.Or) ∷ (sign (codes "&&"), b.And) ∷ (sign (codes "|"), b.BitOr) ∷ (sign (codes "^"), b.BitXor) ∷ (sign (codes "&"), b.BitAnd)
+    (sign (codes "||"), b.Or) ∷ (sign (codes "&&"), b.And) ∷ (sign (codes "|"), b.BitOr)
+    ∷ (sign (codes "^"), b.BitXor) ∷ (sign (codes "&"), b.BitAnd)
     ∷ (sign (codes "=="), b.Equal) ∷ (sign (codes "!="), b.Unequal)
-    ∷ (sign (codes "<"), b.Less) ∷ (sign (codes ">"), b.Greater) ∷ (sign (codes "<="), b.LessEqual) ∷ (sign (codes ">="), b.GreaterEqual)
-    ∷ (sign (codes "<<"), b.Left) ∷ (sign (codes ">>"), b.Right) ∷ (sign (codes "+"), b.Plus) ∷ (sign (codes "-"), b.Minus)
+    ∷ (sign (codes "<"), b.Less) ∷ (sign (codes ">"), b.Greater) ∷ (sign (codes "<="), b.LessEqual)
+    ∷ (sign (codes ">="), b.GreaterEqual)
+    ∷ (sign (codes "<<"), b.Left) ∷ (sign (codes ">>"), b.Right) ∷ (sign (codes "+"), b.Plus)
+    ∷ (sign (codes "-"), b.Minus)
     ∷ (sign (codes "*"), b.Times) ∷ (sign (codes "/"), b.Divide) ∷ (sign (codes "%"), b.Rest) ∷ []
 
 abbrev pub binary_op : Kind → Option Binary
@@ -101,12 +108,13 @@ rank b.Divide = mul
 rank b.Rest = mul
 
 -- unary operators (C11 6.5.3.2 and 6.5.3.3)
-abbrev pub prefix_ops : List (Kind × Unary)
-prefix_ops =
-    (sign (codes "+"), u.Plus) ∷ (sign (codes "-"), u.Minus) ∷ (sign (codes "!"), u.Not) ∷ (sign (codes "~"), u.Flip) ∷ (sign (codes "*"), u.At) ∷ (sign (codes "&"), u.Address) ∷ []
+abbrev pub unary_ops : List (Kind × Unary)
+unary_ops =
+    (sign (codes "+"), u.Plus) ∷ (sign (codes "-"), u.Minus) ∷ (sign (codes "!"), u.Not)
+    ∷ (sign (codes "~"), u.Flip) ∷ (sign (codes "*"), u.At) ∷ (sign (codes "&"), u.Address) ∷ []
 
-abbrev pub prefix_op : Kind → Option Unary
-prefix_op = find prefix_ops
+abbrev pub unary_op : Kind → Option Unary
+unary_op = find unary_ops
 
 -- `++` and `--` before their operand (C11 6.5.3.1), and behind it (6.5.2.4)
 abbrev pub first_steps : List (Kind × Step)
@@ -123,14 +131,15 @@ last_step = find last_steps
 
 -- the callees that are reserved words
 abbrev pub builtins : List (Kind × Callee)
-builtins = (k.Reserved (codes "getchar"), c.Getchar) ∷ (k.Reserved (codes "putchar"), c.Putchar) ∷ []
+builtins = (k.Reserved (codes "getchar"), c.Getchar) ∷ (k.Reserved (codes "putchar"), c.Putchar)
+    ∷ []
 
 abbrev pub builtin : Kind → Option Callee
 builtin = find builtins
 
 -- the bases of one word
-abbrev pub plain_bases : List (Kind × Shape)
-plain_bases = (k.Reserved (codes "int"), IntShape) ∷ (k.Reserved (codes "char"), CharShape) ∷ []
+abbrev pub plain_bases : List (Kind × Ty)
+plain_bases = (k.Reserved (codes "int"), ty.Int) ∷ (k.Reserved (codes "char"), ty.Char) ∷ []
 
-abbrev pub plain_base : Kind → Option Shape
+abbrev pub plain_base : Kind → Option Ty
 plain_base = find plain_bases

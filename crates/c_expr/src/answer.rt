@@ -3,7 +3,7 @@
 ghost use Rattle.std.specs.Prelude.{◌<◌, length};
 ghost use Rattle.c_expr.specs.Grammar.{IsAssign, IsCond};
 ghost use Rattle.c_expr.specs.Parsing.{ParsedAt, IsEnded};
-ghost use Rattle.c_expr.specs.Rules.{IsRule};
+ghost use Rattle.c_expr.specs.private.ParserRules.{IsRule};
 
 use crate::fault::ParseFault;
 use crate::parse::open_rule;

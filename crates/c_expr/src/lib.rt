@@ -13,7 +13,7 @@ mod spelled;
 mod unique;
 
 pub use answer::{parse_cond, parse_expr};
-pub use bases::{base, is_base};
+pub use bases::{is_base, parse_base};
 pub use fault::ParseFault;
 pub use opening::begins;
 pub use reader::{expect, place_of, take};

@@ -6,7 +6,7 @@ ghost use Rattle.c_expr.specs.Spelled as spelled;
 
 use crate::fault::ParseFault;
 use crate::reader::place_of;
-use crate::spelled::{first_step, is_sign, is_word, prefix_op};
+use crate::spelled::{first_step, is_sign, is_word, unary_op};
 use c_token::{Kind, Token};
 use c_tree::Callee;
 
@@ -24,7 +24,8 @@ pub(crate) fn builtin(rest: &[Token]) -> Option<Callee>
 }
 
 fn is_operand(rest: &[Token]) -> bool
-    ensures { result ≡ next.operand_by (next.kind_of rest.now) (next.is_eof (next.kind_of rest.now)) (spelled.builtin (next.kind_of rest.now)) }
+    ensures { result ≡ next.operand_by (next.kind_of rest.now)
+        (next.is_eof (next.kind_of rest.now)) (spelled.builtin (next.kind_of rest.now)) }
 {
     match rest {
         [
@@ -56,14 +57,14 @@ fn is_operand(rest: &[Token]) -> bool
 pub fn begins(rest: &[Token]) -> bool
     ensures { result ≡ next.begins (next.kind_of rest.now) }
 {
-    prefix_op(rest).is_some()
+    unary_op(rest).is_some()
         || first_step(rest).is_some()
         || is_sign(rest, *b"(\0\0")
         || is_operand(rest)
 }
 
 /// Where no rule may be opened any more.
-pub(crate) fn start(rest: &[Token]) -> ParseFault
+pub(crate) fn fault_at_start(rest: &[Token]) -> ParseFault
     ensures { result ≡ next.fault_at_start rest.now }
 {
     if begins(rest) {

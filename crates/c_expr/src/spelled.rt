@@ -136,8 +136,8 @@ pub(crate) fn rank(operator: Binary) -> u32
 }
 
 /// The operator before its operand that the next token is.
-pub(crate) fn prefix_op(rest: &[Token]) -> Option<Unary>
-    ensures { result ≡ spelled.prefix_op (kind_of rest.now) }
+pub(crate) fn unary_op(rest: &[Token]) -> Option<Unary>
+    ensures { result ≡ spelled.unary_op (kind_of rest.now) }
 {
     match rest {
         [
@@ -146,13 +146,13 @@ pub(crate) fn prefix_op(rest: &[Token]) -> Option<Unary>
                 ..
             },
             ..
-        ] => prefix_op_of(*bytes),
+        ] => unary_op_of(*bytes),
         _ => None,
     }
 }
 
-fn prefix_op_of(bytes: [u8; 3]) -> Option<Unary>
-    ensures { result ≡ spelled.prefix_op (k.Sign bytes) }
+fn unary_op_of(bytes: [u8; 3]) -> Option<Unary>
+    ensures { result ≡ spelled.unary_op (k.Sign bytes) }
 {
     match bytes {
         [b'+', 0, 0] => Some(Unary::Plus),

@@ -4,21 +4,22 @@ use Rattle.bop_bits.specs.declared.class.Classes.{Classes}
 use Rattle.bop_bits.specs.declared.map.TheConstants.{PAGE_BYTES}
 use Rattle.c_tree.specs.declared.operator.Keep.{Keep}
 use Rattle.c_tree.specs.declared.operator.Keep.TheVariants.{Shared, Checked, Private}
-use Rattle.c_tree.specs.Syntax.{Shape, Part}
-use Rattle.c_layout.specs.Capped.{near}
+use Rattle.c_tree.specs.Ty.{Ty}
+use Rattle.c_tree.specs.Item.{Item}
+use Rattle.c_layout.specs.private.Capped.{near}
 use Rattle.c_layout.specs.Sizes.{alignment}
 use Rattle.c_layout.specs.Globals.{Global, Cursors, cursor, moved, kept, placed, behind, end_of, addresses_from, addresses, starts, shared_end, checked_from, checked_end, private_from, private_end, private_to, page_of, classes_of, globals}
 use Rattle.c_layout.specs.Laid.{is_data_too_large}
 use Rattle.c_layout.proofs.Nearness.{le_rounded, small_alignment}
 use Rattle.c_layout.proofs.Narrow.{nat_lt_false}
 
-le_placed : (t : Shape) (at : ℕ) → at ≤ placed at t
+le_placed : (t : Ty) (at : ℕ) → at ≤ placed at t
 le_placed t at = le_rounded (alignment t) at (small_alignment t).0
 
-le_behind : (t : Shape) (at : ℕ) → at ≤ behind at t
+le_behind : (t : Ty) (at : ℕ) → at ≤ behind at t
 le_behind t at = let h = le_placed t at in omega arith
 
-le_end : (ts : List Shape) (at : ℕ) → at ≤ end_of at ts
+le_end : (ts : List Ty) (at : ℕ) → at ≤ end_of at ts
 le_end [] at = omega arith
 le_end (t ∷ ts) at =
     let here = le_behind t at in
@@ -26,7 +27,8 @@ le_end (t ∷ ts) at =
     omega arith
 
 -- the section of one kind after a global of a kind
-after : (k by : Keep) (t : Shape) (gs : List Global) (c : Cursors) → end_of (cursor k c) (kept k (record { keep = by; shape = t } ∷ gs)) ≤ 8388608
+after : (k by : Keep) (t : Ty) (gs : List Global) (c : Cursors)
+    → end_of (cursor k c) (kept k (record { keep = by; shape = t } ∷ gs)) ≤ 8388608
     → end_of (cursor k (moved by (behind (cursor by c) t) c)) (kept k gs) ≤ 8388608
 after Shared Shared t gs c h = h
 after Shared Checked t gs c h = h
@@ -39,13 +41,16 @@ after Private Checked t gs c h = h
 after Private Private t gs c h = h
 
 -- the global itself
-within : (by : Keep) (t : Shape) (gs : List Global) (c : Cursors) → end_of (cursor by c) (kept by (record { keep = by; shape = t } ∷ gs)) ≤ 8388608
+within : (by : Keep) (t : Ty) (gs : List Global) (c : Cursors)
+    → end_of (cursor by c) (kept by (record { keep = by; shape = t } ∷ gs)) ≤ 8388608
     → end_of (behind (cursor by c) t) (kept by gs) ≤ 8388608
 within Shared t gs c h = h
 within Checked t gs c h = h
 within Private t gs c h = h
 
-exact_from : (gs : List Global) (c : Cursors) → ((k : Keep) → end_of (cursor k c) (kept k gs) ≤ 8388608) → map near (addresses_from c gs) ≡ addresses_from c gs
+exact_from : (gs : List Global) (c : Cursors)
+    → ((k : Keep) → end_of (cursor k c) (kept k gs) ≤ 8388608)
+    → map near (addresses_from c gs) ≡ addresses_from c gs
 exact_from [] c h = refl
 exact_from (g ∷ gs) c h =
     let at = cursor g.keep c in
@@ -71,13 +76,14 @@ ordered gs = record {
   private = le_rounded PAGE_BYTES (private_end gs) (omega arith);
 }
 
-below : (gs : List Global) → private_to gs ≤ 3932160 → (k : Keep) → end_of (cursor k (starts gs)) (kept k gs) ≤ 8388608
+below : (gs : List Global) → private_to gs ≤ 3932160 → (k : Keep)
+    → end_of (cursor k (starts gs)) (kept k gs) ≤ 8388608
 below gs h Shared = let o = ordered gs in omega arith
 below gs h Checked = let o = ordered gs in omega arith
 below gs h Private = let o = ordered gs in omega arith
 
 -- what is known of a text's data up to a limit is exact where they aren't too large
-pub laid : (ps : List Part) (checked private to : ℕ) (out : List ℕ)
+pub laid : (ps : List Item) (checked private to : ℕ) (out : List ℕ)
     → checked ≡ near (checked_from (globals ps)) → private ≡ near (private_from (globals ps)) → to ≡ near (private_to (globals ps)) → to ≤ 3932160
     → out ≡ map near (addresses (globals ps))
     → (out ≡ addresses (globals ps))

@@ -3,7 +3,7 @@ use Rattle.std.specs.Prelude.{ℕ, Bool, List, [], ◌∷◌, Option, Some, None
 use Rattle.bop_bits.specs.declared.class.Classes.{Classes}
 use Rattle.bop_bits.specs.declared.map.TheConstants.{STACK_FROM}
 use Rattle.c_tree.specs.declared.place.Place.{Place}
-use Rattle.c_tree.specs.Syntax.{Part}
+use Rattle.c_tree.specs.Item.{Item}
 use Rattle.c_layout.specs.Globals.{globals, addresses, classes_of, private_to}
 use Rattle.c_layout.specs.Frames.{Planned, Framed, frames}
 
@@ -16,11 +16,15 @@ pub record Plan : Type 0 where
 abbrev pub planned : Framed → Planned
 planned f = f.frame
 
-abbrev pub plan : List Part → Plan
-plan ps = record { globals = addresses (globals ps); frames = map planned (frames ps); classes = classes_of (globals ps) }
+abbrev pub plan : List Item → Plan
+plan ps = record {
+  globals = addresses (globals ps);
+  frames = map planned (frames ps);
+  classes = classes_of (globals ps);
+}
 
 -- the private section doesn't end before the stack
-abbrev pub is_data_too_large : List Part → Bool
+abbrev pub is_data_too_large : List Item → Bool
 is_data_too_large ps = nat_lt STACK_FROM (private_to (globals ps))
 
 -- the name of the first function whose frame has more than 65,536 bytes

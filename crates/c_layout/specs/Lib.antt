@@ -1,8 +1,7 @@
-pub mod Capped
-pub mod Forks
 pub mod Frames
 pub mod Globals
 pub mod Laid
-pub mod Outcome
+pub mod LayoutAnswers
 pub mod Sizes
 pub mod Slots
+pub mod private

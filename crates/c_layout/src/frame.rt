@@ -1,11 +1,11 @@
 //! The frame of a function.
 
 ghost use Rattle.std.specs.Prelude.{◌≡◌, ◌≤◌, ◌++◌, true, false, nat_lt, map, option_map, IfOk, OnOk, MatchOption};
-ghost use Rattle.c_tree.specs.View.{declarator, beginning, statement, statements, held, parameter};
-ghost use Rattle.c_layout.specs.Capped.{narrow};
-ghost use Rattle.c_layout.specs.Forks.{else_locals};
+ghost use Rattle.c_tree.specs.View.{var_of, first_of, stmt_of, stmts_of, boxed_stmt_of, param_of};
+ghost use Rattle.c_layout.specs.private.Capped.{narrow};
+ghost use Rattle.c_layout.specs.private.Forks.{else_locals};
 ghost use Rattle.c_layout.specs.Frames.{beginning_locals, locals, body_locals, room_of, room_of_parameter, rooms, offsets_from, end_from, frame_of};
-ghost use Rattle.c_layout.specs.Outcome.{planned_of};
+ghost use Rattle.c_layout.specs.LayoutAnswers.{planned_of};
 
 use crate::limits::{FRAME_BYTES, WIDE};
 use crate::sizes::{round_up, size};
@@ -27,13 +27,14 @@ pub struct Frame {
 /// A local's bytes, rounded up to 4.
 #[tactic(auto, using(crate::proofs::Narrow::narrowed))]
 fn room(v: &Var) -> u32
-    ensures { result ≡ narrow (room_of (declarator v.now)) }
+    ensures { result ≡ narrow (room_of (var_of v.now)) }
 {
     round_up(4, size(v)).min(WIDE)
 }
 
 fn push_vars(vars: &[Var], out: &mut Vec<u32>) -> Result<(), OutOfMemory>
-    ensures { OnOk result (out.new.items ≡ out.old.items ++ map narrow (map room_of (map declarator vars.now))) }
+    ensures { OnOk result (out.new.items
+        ≡ out.old.items ++ map narrow (map room_of (map var_of vars.now))) }
 {
     for v in vars {
         out.push(room(v))?;
@@ -42,7 +43,8 @@ fn push_vars(vars: &[Var], out: &mut Vec<u32>) -> Result<(), OutOfMemory>
 }
 
 fn push_first(first: &First, out: &mut Vec<u32>) -> Result<(), OutOfMemory>
-    ensures { OnOk result (out.new.items ≡ out.old.items ++ map narrow (map room_of (beginning_locals (beginning first.now)))) }
+    ensures { OnOk result (out.new.items
+        ≡ out.old.items ++ map narrow (map room_of (beginning_locals (first_of first.now)))) }
 {
     match first {
         First::Nothing => Ok(()),
@@ -53,7 +55,9 @@ fn push_first(first: &First, out: &mut Vec<u32>) -> Result<(), OutOfMemory>
 
 #[cycle(statements)]
 fn push_else(other: &Option<Box<Stmt>>, out: &mut Vec<u32>) -> Result<(), OutOfMemory>
-    ensures { OnOk result (out.new.items ≡ out.old.items ++ map narrow (map room_of (else_locals (option_map held other.now)))) }
+    ensures { OnOk result (out.new.items
+        ≡ out.old.items ++ map narrow
+        (map room_of (else_locals (option_map boxed_stmt_of other.now)))) }
 {
     match other {
         None => Ok(()),
@@ -62,9 +66,10 @@ fn push_else(other: &Option<Box<Stmt>>, out: &mut Vec<u32>) -> Result<(), OutOfM
 }
 
 #[cycle(statements)]
-#[tactic(auto, using(c_tree::proofs::Views::views, crate::proofs::Forks::forks))]
+#[tactic(auto, using(c_tree::proofs::ViewLemmas::views, crate::proofs::ForksLemmas::forks))]
 fn push_stmt(s: &Stmt, out: &mut Vec<u32>) -> Result<(), OutOfMemory>
-    ensures { OnOk result (out.new.items ≡ out.old.items ++ map narrow (map room_of (locals (statement s.now)))) }
+    ensures { OnOk result (out.new.items
+        ≡ out.old.items ++ map narrow (map room_of (locals (stmt_of s.now)))) }
 {
     match &s.kind {
         StmtKind::Empty => Ok(()),
@@ -90,7 +95,8 @@ fn push_stmt(s: &Stmt, out: &mut Vec<u32>) -> Result<(), OutOfMemory>
 
 #[cycle(statements)]
 fn push_body(body: &[Stmt], out: &mut Vec<u32>) -> Result<(), OutOfMemory>
-    ensures { OnOk result (out.new.items ≡ out.old.items ++ map narrow (map room_of (body_locals (statements body.now)))) }
+    ensures { OnOk result (out.new.items
+        ≡ out.old.items ++ map narrow (map room_of (body_locals (stmts_of body.now)))) }
 {
     for s in body {
         push_stmt(s, out)?;
@@ -99,7 +105,8 @@ fn push_body(body: &[Stmt], out: &mut Vec<u32>) -> Result<(), OutOfMemory>
 }
 
 fn parameter_rooms(alloc: Global, params: &[Param]) -> Result<Vec<u32>, OutOfMemory>
-    ensures { IfOk result (λ out. out.items ≡ map narrow (map room_of_parameter (map parameter params.now))) }
+    ensures { IfOk result (λ out. out.items
+        ≡ map narrow (map room_of_parameter (map param_of params.now))) }
 {
     let mut out = Vec::new(alloc);
     for _param in params {
@@ -110,7 +117,8 @@ fn parameter_rooms(alloc: Global, params: &[Param]) -> Result<Vec<u32>, OutOfMem
 
 /// The bytes of the parameters and then of the locals.
 fn rooms(alloc: Global, params: &[Param], body: &[Stmt]) -> Result<Vec<u32>, OutOfMemory>
-    ensures { IfOk result (λ out. out.items ≡ map narrow (rooms (map parameter params.now) (statements body.now))) }
+    ensures { IfOk result (λ out. out.items
+        ≡ map narrow (rooms (map param_of params.now) (stmts_of body.now))) }
 {
     let mut out = parameter_rooms(alloc, params)?;
     push_body(body, &mut out)?;
@@ -145,8 +153,10 @@ pub(crate) fn frame_of(
     body: &[Stmt],
 ) -> Result<Option<Frame>, OutOfMemory>
     ensures { IfOk result (λ frame. MatchOption frame
-        (nat_lt 65536 (frame_of (map parameter params.now) (statements body.now)).size ≡ true)
-        (λ f. (planned_of f ≡ frame_of (map parameter params.now) (statements body.now)) × (nat_lt 65536 (frame_of (map parameter params.now) (statements body.now)).size ≡ false))) }
+        (nat_lt 65536 (frame_of (map param_of params.now) (stmts_of body.now)).size ≡ true)
+        (λ f. (planned_of f ≡ frame_of (map param_of params.now) (stmts_of body.now))
+        × (nat_lt 65536 (frame_of (map param_of params.now) (stmts_of body.now)).size
+        ≡ false))) }
 {
     let slots = body_slots(body);
     let rooms = rooms(alloc, params, body)?;

@@ -3,8 +3,8 @@
 ghost use Rattle.std.specs.Prelude.{◌≡◌, ◌≤◌, ◌++◌, List, [], ◌∷◌, map, IfOk};
 ghost use Rattle.bop_bits.specs.declared.map.TheConstants.{PAGE_BYTES};
 ghost use Rattle.c_tree.specs.Declarators.{declared_shape};
-ghost use Rattle.c_tree.specs.View.{declarator, part};
-ghost use Rattle.c_layout.specs.Capped.{near, cursors_of};
+ghost use Rattle.c_tree.specs.View.{var_of, item_of};
+ghost use Rattle.c_layout.specs.private.Capped.{near, cursors_of};
 ghost use Rattle.c_layout.specs.Sizes.{rounded};
 ghost use Rattle.c_layout.specs.Globals.{Global as Object, global_of, globals, is_kept, kept, placed, behind, end_of, checked_from, private_from, private_to, page_of, addresses_from, addresses};
 
@@ -26,8 +26,8 @@ struct Span {
 #[tactic(auto, using(crate::proofs::Nearness::spans))]
 fn place(v: &Var, at: u32) -> Span
     requires { at ≤ FAR }
-    ensures from { result.from ≡ near (placed at (declared_shape (declarator v.now))) }
-    ensures to { result.to ≡ near (behind at (declared_shape (declarator v.now))) }
+    ensures from { result.from ≡ near (placed at (declared_shape (var_of v.now))) }
+    ensures to { result.to ≡ near (behind at (declared_shape (var_of v.now))) }
 {
     let from = round_up(alignment(v), at);
     Span {
@@ -39,7 +39,7 @@ fn place(v: &Var, at: u32) -> Span
 /// Where variables end that follow each other from an address on.
 fn vars_end(vars: &[Var], from: u32) -> u32
     requires { from ≤ FAR }
-    ensures { result ≡ near (end_of from (map declared_shape (map declarator vars.now))) }
+    ensures { result ≡ near (end_of from (map declared_shape (map var_of vars.now))) }
 {
     let mut at = from;
     for v in vars {
@@ -63,7 +63,9 @@ fn is_kept(keep: Keep, by: Keep) -> bool
 fn item_end(item: &Item, keep: Keep, from: u32) -> u32
     requires { from ≤ FAR }
     ensures limit { result ≤ FAR }
-    ensures end { (rest : List Object) → near (end_of result (kept keep rest)) ≡ near (end_of from (kept keep (globals (part item.now ∷ []) ++ rest))) }
+    ensures end { (rest : List Object)
+        → near (end_of result (kept keep rest))
+        ≡ near (end_of from (kept keep (globals (item_of item.now ∷ []) ++ rest))) }
 {
     match item {
         Item::Vars(by, vars) => {
@@ -80,7 +82,7 @@ fn item_end(item: &Item, keep: Keep, from: u32) -> u32
 /// Where the globals end that are kept in one way.
 fn section_end(items: &[Item], keep: Keep, from: u32) -> u32
     requires { from ≤ FAR }
-    ensures { result ≡ near (end_of from (kept keep (globals (map part items.now)))) }
+    ensures { result ≡ near (end_of from (kept keep (globals (map item_of items.now)))) }
 {
     let mut at = from;
     for item in items {
@@ -106,9 +108,11 @@ pub(crate) struct Sections {
 
 /// The sections of a text.
 pub(crate) fn sections_of(items: &[Item]) -> Sections
-    ensures checked_from { result.checked_from ≡ near (checked_from (globals (map part items.now))) }
-    ensures private_from { result.private_from ≡ near (private_from (globals (map part items.now))) }
-    ensures private_to { result.private_to ≡ near (private_to (globals (map part items.now))) }
+    ensures checked_from { result.checked_from
+        ≡ near (checked_from (globals (map item_of items.now))) }
+    ensures private_from { result.private_from
+        ≡ near (private_from (globals (map item_of items.now))) }
+    ensures private_to { result.private_to ≡ near (private_to (globals (map item_of items.now))) }
 {
     let checked_from = page_up(section_end(items, Keep::Shared, DATA_FROM));
     let private_from = page_up(section_end(items, Keep::Checked, checked_from));
@@ -128,7 +132,12 @@ fn page_of(at: u32) -> u32
 
 /// The classes of the pages.
 pub(crate) fn classes(sections: Sections) -> Classes
-    ensures { result ≡ record { checked_from = page_of sections.checked_from; private_from = page_of sections.private_from; private_to = page_of sections.private_to } }
+    ensures { result ≡ record {
+      checked_from = page_of sections.checked_from;
+      private_from = page_of sections.private_from;
+      private_to =
+          page_of sections.private_to;
+    } }
 {
     Classes {
         checked_from: page_of(sections.checked_from),
@@ -138,20 +147,27 @@ pub(crate) fn classes(sections: Sections) -> Classes
 }
 
 fn place_vars(keep: Keep, vars: &[Var], next: Next, out: &mut Vec<u32>) -> Result<Next, OutOfMemory>
-    ensures { IfOk result (λ after. (rest : List Object) → out.new.items ++ map near (addresses_from (cursors_of after) rest) ≡ out.old.items ++ map near (addresses_from (cursors_of next) (map (global_of keep) (map declarator vars.now) ++ rest))) }
+    ensures { IfOk result (λ after. (rest : List Object)
+        → out.new.items ++ map near (addresses_from (cursors_of after) rest)
+        ≡ out.old.items ++ map near
+        (addresses_from (cursors_of next)
+        (map (global_of keep) (map var_of vars.now) ++ rest))) }
 {
     let mut next = next;
     for v in vars {
         let span = place(v, next.get(keep));
         out.push(span.from)?;
-        next = next.moved(keep, span.to);
+        next = next.move_on(keep, span.to);
     }
     Ok(next)
 }
 
 #[tactic(auto, using(crate::proofs::Placing::placing))]
 fn place_item(item: &Item, next: Next, out: &mut Vec<u32>) -> Result<Next, OutOfMemory>
-    ensures { IfOk result (λ after. (rest : List Object) → out.new.items ++ map near (addresses_from (cursors_of after) rest) ≡ out.old.items ++ map near (addresses_from (cursors_of next) (globals (part item.now ∷ []) ++ rest))) }
+    ensures { IfOk result (λ after. (rest : List Object)
+        → out.new.items ++ map near (addresses_from (cursors_of after) rest)
+        ≡ out.old.items ++ map near
+        (addresses_from (cursors_of next) (globals (item_of item.now ∷ []) ++ rest))) }
 {
     match item {
         Item::Vars(keep, vars) => place_vars(*keep, vars, next, out),
@@ -160,7 +176,8 @@ fn place_item(item: &Item, next: Next, out: &mut Vec<u32>) -> Result<Next, OutOf
 }
 
 fn place_items(alloc: Global, items: &[Item], start: Next) -> Result<Vec<u32>, OutOfMemory>
-    ensures { IfOk result (λ out. out.items ≡ map near (addresses_from (cursors_of start) (globals (map part items.now)))) }
+    ensures { IfOk result (λ out. out.items
+        ≡ map near (addresses_from (cursors_of start) (globals (map item_of items.now)))) }
 {
     let mut out = Vec::new(alloc);
     let mut next = start;
@@ -176,9 +193,12 @@ pub(crate) fn addresses(
     items: &[Item],
     sections: Sections,
 ) -> Result<Vec<u32>, OutOfMemory>
-    requires checked_from { sections.checked_from ≡ near (checked_from (globals (map part items.now))) }
-    requires private_from { sections.private_from ≡ near (private_from (globals (map part items.now))) }
-    ensures { IfOk result (λ out. out.items ≡ map near (addresses (globals (map part items.now)))) }
+    requires checked_from { sections.checked_from
+        ≡ near (checked_from (globals (map item_of items.now))) }
+    requires private_from { sections.private_from
+        ≡ near (private_from (globals (map item_of items.now))) }
+    ensures { IfOk result (λ out. out.items
+        ≡ map near (addresses (globals (map item_of items.now)))) }
 {
     let start = Next {
         shared: DATA_FROM,

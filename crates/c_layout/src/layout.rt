@@ -1,10 +1,10 @@
 //! The layout of a text.
 
 ghost use Rattle.std.specs.Prelude.{◌≡◌, ◌<◌, ◌++◌, [], ◌∷◌, None, Some, false, map, length, slice_get, slice_index, IfOk, OnOk, IfErr, OnErr, MatchResult};
-ghost use Rattle.c_tree.specs.View.{function, part, parts};
+ghost use Rattle.c_tree.specs.View.{fun_of, item_of, items_of};
 ghost use Rattle.c_layout.specs.Frames.{framed, frames};
 ghost use Rattle.c_layout.specs.Laid.{plan, planned, is_data_too_large, first_too_large};
-ghost use Rattle.c_layout.specs.Outcome.{planned_of, plan_of, IsFrameFault, IsFault};
+ghost use Rattle.c_layout.specs.LayoutAnswers.{planned_of, plan_of, IsFrameFault, IsFault};
 
 use crate::fault::LayoutFault;
 use crate::frame::{Frame, frame_of};
@@ -61,9 +61,11 @@ impl Layout {
 }
 
 fn push_frame(alloc: Global, f: &Fun, out: &mut Vec<Frame>) -> Result<(), LayoutFault>
-    ensures frames { OnOk result (map planned_of out.new.items ≡ map planned_of out.old.items ++ map planned (framed (function f.now) (function f.now).body)) }
-    ensures fit { OnOk result (first_too_large (framed (function f.now) (function f.now).body) ≡ None) }
-    ensures err { IfErr result (IsFrameFault (framed (function f.now) (function f.now).body)) }
+    ensures frames { OnOk result
+        (map planned_of out.new.items
+        ≡ map planned_of out.old.items ++ map planned (framed (fun_of f.now) (fun_of f.now).body)) }
+    ensures fit { OnOk result (first_too_large (framed (fun_of f.now) (fun_of f.now).body) ≡ None) }
+    ensures err { IfErr result (IsFrameFault (framed (fun_of f.now) (fun_of f.now).body)) }
 {
     let Some(body) = &f.body else {
         return Ok(());
@@ -75,9 +77,11 @@ fn push_frame(alloc: Global, f: &Fun, out: &mut Vec<Frame>) -> Result<(), Layout
 }
 
 fn push_item(alloc: Global, item: &Item, out: &mut Vec<Frame>) -> Result<(), LayoutFault>
-    ensures frames { OnOk result (map planned_of out.new.items ≡ map planned_of out.old.items ++ map planned (frames (part item.now ∷ []))) }
-    ensures fit { OnOk result (first_too_large (frames (part item.now ∷ [])) ≡ None) }
-    ensures err { IfErr result (IsFrameFault (frames (part item.now ∷ []))) }
+    ensures frames { OnOk result
+        (map planned_of out.new.items
+        ≡ map planned_of out.old.items ++ map planned (frames (item_of item.now ∷ []))) }
+    ensures fit { OnOk result (first_too_large (frames (item_of item.now ∷ [])) ≡ None) }
+    ensures err { IfErr result (IsFrameFault (frames (item_of item.now ∷ []))) }
 {
     match item {
         Item::Vars(_, _) => Ok(()),
@@ -87,9 +91,10 @@ fn push_item(alloc: Global, item: &Item, out: &mut Vec<Frame>) -> Result<(), Lay
 
 /// The frames of the functions that are defined.
 fn frames(alloc: Global, items: &[Item]) -> Result<Vec<Frame>, LayoutFault>
-    ensures frames { IfOk result (λ out. map planned_of out.items ≡ map planned (frames (map part items.now))) }
-    ensures fit { OnOk result (first_too_large (frames (map part items.now)) ≡ None) }
-    ensures err { IfErr result (IsFrameFault (frames (map part items.now))) }
+    ensures frames { IfOk result
+        (λ out. map planned_of out.items ≡ map planned (frames (map item_of items.now))) }
+    ensures fit { OnOk result (first_too_large (frames (map item_of items.now)) ≡ None) }
+    ensures err { IfErr result (IsFrameFault (frames (map item_of items.now))) }
 {
     let mut out = Vec::new(alloc);
     for item in items {
@@ -101,8 +106,10 @@ fn frames(alloc: Global, items: &[Item]) -> Result<Vec<Frame>, LayoutFault>
 /// The layout of a tree, accepted or not.
 pub fn layout_of(alloc: Global, tree: &Tree) -> Result<Layout, LayoutFault>
     ensures { MatchResult result
-        (λ layout. (plan_of layout ≡ plan (parts tree.now)) × (is_data_too_large (parts tree.now) ≡ false) × (first_too_large (frames (parts tree.now)) ≡ None))
-        (IsFault (parts tree.now)) }
+        (λ layout. (plan_of layout ≡ plan (items_of tree.now))
+        × (is_data_too_large (items_of tree.now) ≡ false)
+        × (first_too_large (frames (items_of tree.now)) ≡ None))
+        (IsFault (items_of tree.now)) }
 {
     let items = tree.items.as_slice();
     let sections = sections_of(items);
@@ -121,8 +128,10 @@ pub fn layout_of(alloc: Global, tree: &Tree) -> Result<Layout, LayoutFault>
 /// Where the objects of an accepted text stand.
 pub fn lay_out(alloc: Global, checked: &Checked) -> Result<Layout, LayoutFault>
     ensures { MatchResult result
-        (λ layout. (plan_of layout ≡ plan (parts checked.now.tree)) × (is_data_too_large (parts checked.now.tree) ≡ false) × (first_too_large (frames (parts checked.now.tree)) ≡ None))
-        (IsFault (parts checked.now.tree)) }
+        (λ layout. (plan_of layout ≡ plan (items_of checked.now.tree))
+        × (is_data_too_large (items_of checked.now.tree) ≡ false)
+        × (first_too_large (frames (items_of checked.now.tree)) ≡ None))
+        (IsFault (items_of checked.now.tree)) }
 {
     layout_of(alloc, checked.tree())
 }

@@ -4,7 +4,7 @@
 mod fault;
 mod frame;
 mod globals;
-mod law;
+mod laws;
 mod layout;
 mod limits;
 mod next;
@@ -13,5 +13,5 @@ mod slots;
 
 pub use fault::LayoutFault;
 pub use frame::Frame;
-pub use law::erased_text_has_the_same_layout;
+pub use laws::erased_text_has_the_same_layout;
 pub use layout::{Layout, lay_out, layout_of};

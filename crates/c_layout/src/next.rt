@@ -18,7 +18,7 @@ pub(crate) struct Next {
 }
 
 impl Next {
-    ghost use Rattle.c_layout.specs.Capped.{cursors_of};
+    ghost use Rattle.c_layout.specs.private.Capped.{cursors_of};
     ghost use Rattle.c_layout.specs.Globals.{cursor, moved};
 
     /// Where the next global of a kind stands at the earliest.
@@ -34,7 +34,7 @@ impl Next {
     }
 
     /// The next global of a kind stands from an address on.
-    pub(crate) fn moved(self, keep: Keep, at: u32) -> Next
+    pub(crate) fn move_on(self, keep: Keep, at: u32) -> Next
         requires { at ≤ FAR }
         ensures { cursors_of result ≡ moved keep at (cursors_of self) }
     {

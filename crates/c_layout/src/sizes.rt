@@ -3,9 +3,9 @@
 ghost use Rattle.std.specs.Prelude.{◌≡◌, ◌*◌, ◌<◌, ◌≤◌};
 ghost use Rattle.c_tree.specs.Constant.{value_of};
 ghost use Rattle.c_tree.specs.Declarators.{count_of, sized, element_shape, declared_shape};
-ghost use Rattle.c_tree.specs.Syntax.{Shape};
-ghost use Rattle.c_tree.specs.View.{shape, expression, expressions, declarator};
-ghost use Rattle.c_layout.specs.Capped.{near};
+ghost use Rattle.c_tree.specs.Ty.{Ty};
+ghost use Rattle.c_tree.specs.View.{ty_of, expr_of, exprs_of, var_of};
+ghost use Rattle.c_layout.specs.private.Capped.{near};
 ghost use Rattle.c_layout.specs.Sizes.{size, alignment, rounded};
 
 use crate::limits::FAR;
@@ -32,7 +32,7 @@ fn product(count: u32, size: u32) -> u32
 
 #[tactic(auto, using(crate::proofs::Extents::extents))]
 fn type_size(ty: &CType) -> u32
-    ensures { result ≡ near (size (shape ty.now)) }
+    ensures { result ≡ near (size (ty_of ty.now)) }
 {
     match ty {
         CType::Int => 4,
@@ -45,7 +45,7 @@ fn type_size(ty: &CType) -> u32
 }
 
 fn type_alignment(ty: &CType) -> u32
-    ensures { result ≡ alignment (shape ty.now) }
+    ensures { result ≡ alignment (ty_of ty.now) }
 {
     match ty {
         CType::Int => 4,
@@ -59,7 +59,7 @@ fn type_alignment(ty: &CType) -> u32
 
 /// A number of elements. A size that is no constant counts as 0.
 fn count(e: &Expr) -> u32
-    ensures { result ≡ count_of (value_of (expression e.now)) }
+    ensures { result ≡ count_of (value_of (expr_of e.now)) }
 {
     let mut unread = none_found(Ranking::ForTypes);
     match evaluate(e, false, None, &mut unread).value {
@@ -70,7 +70,7 @@ fn count(e: &Expr) -> u32
 
 #[tactic(auto, using(crate::proofs::Extents::extents))]
 fn element_size(v: &Var) -> u32
-    ensures { result ≡ near (size (element_shape (declarator v.now))) }
+    ensures { result ≡ near (size (element_shape (var_of v.now))) }
 {
     if v.stars > 0 { 4 } else { type_size(&v.base) }
 }
@@ -78,7 +78,7 @@ fn element_size(v: &Var) -> u32
 /// The number of elements of arrays within arrays.
 fn elements(sizes: &[Expr]) -> u32
     ensures limit { result ≤ FAR }
-    ensures bytes { (t : Shape) → near (result * size t) ≡ near (size (sized (expressions sizes.now) t)) }
+    ensures bytes { (t : Ty) → near (result * size t) ≡ near (size (sized (exprs_of sizes.now) t)) }
 {
     let mut elements: u32 = 1;
     for e in sizes {
@@ -89,7 +89,7 @@ fn elements(sizes: &[Expr]) -> u32
 
 /// The bytes of a variable.
 pub(crate) fn size(v: &Var) -> u32
-    ensures { result ≡ near (size (declared_shape (declarator v.now))) }
+    ensures { result ≡ near (size (declared_shape (var_of v.now))) }
 {
     product(element_size(v), elements(&v.sizes))
 }
@@ -97,7 +97,7 @@ pub(crate) fn size(v: &Var) -> u32
 /// A variable's alignment.
 #[tactic(auto, using(crate::proofs::Extents::pointer_sizes, crate::proofs::Extents::array_sizes))]
 pub(crate) fn alignment(v: &Var) -> u32
-    ensures { result ≡ alignment (declared_shape (declarator v.now)) }
+    ensures { result ≡ alignment (declared_shape (var_of v.now)) }
 {
     if v.stars > 0 {
         4

@@ -4,10 +4,10 @@ ghost use Rattle.std.specs.Prelude.{◌≡◌, ◌+◌, ◌<◌, ◌≤◌, max,
 ghost use Rattle.std.specs.Option.{option_copied};
 ghost use Rattle.c_tree.specs.declared.tree.Expr.{size-Expr};
 ghost use Rattle.c_tree.specs.Constant.{is_logic};
-ghost use Rattle.c_tree.specs.View.{expression, expressions, initialiser, declarator, beginning, statement, statements, held};
-ghost use Rattle.c_layout.specs.Capped.{few};
+ghost use Rattle.c_tree.specs.View.{expr_of, exprs_of, init_of, var_of, first_of, stmt_of, stmts_of, boxed_stmt_of};
+ghost use Rattle.c_layout.specs.private.Capped.{few};
 ghost use Rattle.c_layout.specs.Slots.{slots, slots_from, most, optional, init_slots, declarators_slots, beginning_slots, statement_slots, body_slots};
-ghost use Rattle.c_layout.specs.Forks.{else_slots};
+ghost use Rattle.c_layout.specs.private.Forks.{else_slots};
 
 use crate::limits::MANY;
 use c_tree::{Binary, Expr, ExprKind, First, Init, Stmt, StmtKind, Var};
@@ -46,10 +46,13 @@ fn right(op: Binary, slots: u32) -> u32
 }
 
 #[cycle(slots)]
-#[tactic(auto, using(c_tree::proofs::Views::views))]
+#[tactic(auto, using(c_tree::proofs::ViewLemmas::views))]
 fn part(e: &Expr) -> Parted
-    ensures slots { MatchOption (option_copied result.first) (result.beside ≡ few (slots (expression e.now))) (λ a. max result.beside (few (slots (expression a))) ≡ few (slots (expression e.now))) }
-    ensures smaller { MatchOption (option_copied result.first) (Unit {0}) (λ a. size-Expr a < size-Expr e.now) }
+    ensures slots { MatchOption (option_copied result.first)
+        (result.beside ≡ few (slots (expr_of e.now)))
+        (λ a. max result.beside (few (slots (expr_of a))) ≡ few (slots (expr_of e.now))) }
+    ensures smaller { MatchOption (option_copied result.first) (Unit {0})
+        (λ a. size-Expr a < size-Expr e.now) }
 {
     match &e.kind {
         ExprKind::Name(_) => Parted {
@@ -106,7 +109,7 @@ fn part(e: &Expr) -> Parted
 /// The slots of an expression. First operands are followed in a loop: a text can have some 64,000 of them, each within the one before.
 #[cycle(slots)]
 pub(crate) fn slots(e: &Expr) -> u32
-    ensures { result ≡ few (slots (expression e.now)) }
+    ensures { result ≡ few (slots (expr_of e.now)) }
 {
     let mut most = 0;
     let mut end = e;
@@ -122,7 +125,7 @@ pub(crate) fn slots(e: &Expr) -> u32
 
 #[cycle(slots)]
 fn argument_slots(args: &[Expr]) -> u32
-    ensures { result ≡ few (slots_from 0 (expressions args.now)) }
+    ensures { result ≡ few (slots_from 0 (exprs_of args.now)) }
 {
     let mut most: u32 = 0;
     let mut at: u32 = 0;
@@ -135,7 +138,7 @@ fn argument_slots(args: &[Expr]) -> u32
 
 /// The most slots of some expressions.
 fn most(list: &[Expr]) -> u32
-    ensures { result ≡ few (most (expressions list.now)) }
+    ensures { result ≡ few (most (exprs_of list.now)) }
 {
     let mut most: u32 = 0;
     for e in list {
@@ -145,7 +148,7 @@ fn most(list: &[Expr]) -> u32
 }
 
 fn optional(e: &Option<Expr>) -> u32
-    ensures { result ≡ few (optional (option_map expression e.now)) }
+    ensures { result ≡ few (optional (option_map expr_of e.now)) }
 {
     match e {
         None => 0,
@@ -154,7 +157,7 @@ fn optional(e: &Option<Expr>) -> u32
 }
 
 fn init_slots(init: &Option<Init>) -> u32
-    ensures { result ≡ few (init_slots (option_map initialiser init.now)) }
+    ensures { result ≡ few (init_slots (option_map init_of init.now)) }
 {
     match init {
         None => 0,
@@ -164,7 +167,7 @@ fn init_slots(init: &Option<Init>) -> u32
 }
 
 fn var_slots(vars: &[Var]) -> u32
-    ensures { result ≡ few (declarators_slots (map declarator vars.now)) }
+    ensures { result ≡ few (declarators_slots (map var_of vars.now)) }
 {
     let mut greatest: u32 = 0;
     for v in vars {
@@ -174,7 +177,7 @@ fn var_slots(vars: &[Var]) -> u32
 }
 
 fn first_slots(first: &First) -> u32
-    ensures { result ≡ few (beginning_slots (beginning first.now)) }
+    ensures { result ≡ few (beginning_slots (first_of first.now)) }
 {
     match first {
         First::Nothing => 0,
@@ -185,7 +188,7 @@ fn first_slots(first: &First) -> u32
 
 #[cycle(statements)]
 fn else_slots(other: &Option<Box<Stmt>>) -> u32
-    ensures { result ≡ few (else_slots (option_map held other.now)) }
+    ensures { result ≡ few (else_slots (option_map boxed_stmt_of other.now)) }
 {
     match other {
         None => 0,
@@ -194,9 +197,9 @@ fn else_slots(other: &Option<Box<Stmt>>) -> u32
 }
 
 #[cycle(statements)]
-#[tactic(auto, using(c_tree::proofs::Views::views, crate::proofs::Forks::forks))]
+#[tactic(auto, using(c_tree::proofs::ViewLemmas::views, crate::proofs::ForksLemmas::forks))]
 fn stmt_slots(s: &Stmt) -> u32
-    ensures { result ≡ few (statement_slots (statement s.now)) }
+    ensures { result ≡ few (statement_slots (stmt_of s.now)) }
 {
     match &s.kind {
         StmtKind::Empty => 0,
@@ -220,7 +223,7 @@ fn stmt_slots(s: &Stmt) -> u32
 /// The slots of a function's body.
 #[cycle(statements)]
 pub(crate) fn body_slots(body: &[Stmt]) -> u32
-    ensures { result ≡ few (body_slots (statements body.now)) }
+    ensures { result ≡ few (body_slots (stmts_of body.now)) }
 {
     let mut most: u32 = 0;
     for s in body {

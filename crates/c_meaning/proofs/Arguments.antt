@@ -4,24 +4,26 @@ use Rattle.std.specs.Prelude.{map, slice_get, slice_index_or}
 use Rattle.std.proofs.Math.Seq.{take-append_seam, drop-append_seam}
 use Rattle.std.proofs.lemmas.Bool.{cases_lt}
 use Rattle.std.proofs.lemmas.List.{drop_all, drop_more, length-drop, length-map, length-reverse, reverse-append, reverse-reverse, take_all, take-append-drop}
-use Rattle.c_tree.specs.Syntax.{Part}
-use Rattle.c_semantics.specs.declared.flow.Flow.TheVariants.{Gave}
+use Rattle.c_tree.specs.Item.{Item}
+use Rattle.c_semantics.specs.declared.flow.Flow.TheVariants.{AtReturn}
 use Rattle.c_resolve.specs.declared.node.Node.{Node}
 use Rattle.c_resolve.specs.declared.node.Target.{Target}
 use Rattle.c_resolve.specs.declared.routine.Parameter.{Parameter}
 use Rattle.c_resolve.specs.Actions.{arguments_run}
-use Rattle.c_meaning.specs.Called.{passing_one}
+use Rattle.c_meaning.specs.private.Called.{passing_one}
 use Rattle.c_semantics.specs.Eval.{Calls}
 use Rattle.c_semantics.specs.Memory.{store_at}
 use Rattle.c_semantics.specs.Run.{Store, Run, Goes, then_run, pure, ◌>>=◌, ◌>>◌, count}
 use Rattle.c_semantics.specs.Meaning.{calls_at}
 use Rattle.c_semantics.specs.Names.{Definition}
 use Rattle.c_resolve.specs.Nodes.{Runs, all_values, call_of, runs, target_run}
-use Rattle.c_meaning.specs.Pending.{Rest}
-use Rattle.c_semantics.proofs.Runs.{assoc, assoc_two, then_assoc}
+use Rattle.c_meaning.specs.private.Pending.{Rest}
+use Rattle.c_semantics.proofs.RunLemmas.{assoc, assoc_two, then_assoc}
 
 -- expressions give as many values as they are
-pub all_values_then : {B : Type 0} (rs : List Runs) (f g : List ℕ → Run B) → ((xs : List ℕ) → length xs ≡ length rs → f xs ≡ g xs) → all_values rs >>= f ≡ all_values rs >>= g
+pub all_values_then : {B : Type 0} (rs : List Runs) (f g : List ℕ → Run B)
+    → ((xs : List ℕ) → length xs ≡ length rs → f xs ≡ g xs)
+    → all_values rs >>= f ≡ all_values rs >>= g
 all_values_then [] f g h = h [] refl
 all_values_then (r ∷ rs) f g h =
     assoc_two (all_values rs) (λ v vs. pure (v ∷ vs)) f r.value
@@ -42,14 +44,17 @@ some_is_not_none v is = cc
 
 -- the last of some values are the first of them turned round, as often as there are so many
 module _ (l : List ℕ) (n : ℕ) where
-  both_ends : (length (drop (length l - n) l) ≡ n → (drop (length l - n) l ≡ reverse (take n (reverse l))) × (reverse (take (length l - n) l) ≡ drop n (reverse l)))
+  both_ends : (length (drop (length l - n) l) ≡ n
+      → (drop (length l - n) l ≡ reverse (take n (reverse l)))
+      × (reverse (take (length l - n) l) ≡ drop n (reverse l)))
   both_ends len =
       let last = drop (length l - n) l in
       let first = reverse (take (length l - n) l) in
       let whole : reverse l ≡ reverse last ++ first = ap reverse (sym (take-append-drop (length l - n) l)) ∙ reverse-append (take (length l - n) l) last in
       (sym (ap (λ r. reverse (take n r)) whole ∙ taken last first n len), sym (ap (drop n) whole ∙ kept last first n len))
 
-  pub ends : (drop (length l - n) l ≡ reverse (take n (reverse l))) × (reverse (take (length l - n) l) ≡ drop n (reverse l))
+  pub ends : (drop (length l - n) l ≡ reverse (take n (reverse l)))
+      × (reverse (take (length l - n) l) ≡ drop n (reverse l))
   ends =
       elim (cases_lt (length l) n) [
         | inl few ↦
@@ -59,31 +64,34 @@ module _ (l : List ℕ) (n : ℕ) where
         | inr enough ↦ both_ends (length-drop (length l - n) l ∙ omega arith)
       ]
 
-module _ (definitions : List Definition) (text : List Part) (input : List ℕ) (depth : ℕ) where
+module _ (definitions : List Definition) (text : List Item) (input : List ℕ) (depth : ℕ) where
   -- a call behind its arguments, as the topmost values
-  pub called_then : (t : Target) (all : List Node) (n : ℕ) (rest : Rest) (vs : List ℕ) → length all ≡ n
-      → (call_of definitions input (calls_at text input depth) t all >>= λ v. rest (Gave v) vs)
+  pub called_then : (t : Target) (all : List Node) (n : ℕ) (rest : Rest) (vs : List ℕ)
+      → length all ≡ n
+      → (call_of definitions input (calls_at text input depth) t all >>= λ v. rest (AtReturn v) vs)
       ≡ (all_values (map (runs definitions input (calls_at text input depth)) all)
-      >>= λ xs. count >> (target_run definitions input (calls_at text input depth) t (reverse (take n (reverse xs ++ vs))) >>= λ v. rest (Gave v) (drop n (reverse xs ++ vs))))
+      >>= λ xs. count >> (target_run definitions input (calls_at text input depth) t (reverse (take n (reverse xs ++ vs))) >>= λ v. rest (AtReturn v) (drop n (reverse xs ++ vs))))
   called_then t all n rest vs h =
       let calls = calls_at text input depth in
       let values = all_values (map (runs definitions input calls) all) in
       let go : List ℕ → Run (Option ℕ) = target_run definitions input calls t in
-      assoc values (λ xs. count >> go xs) (λ v. rest (Gave v) vs)
+      assoc values (λ xs. count >> go xs) (λ v. rest (AtReturn v) vs)
       ∙ all_values_then (map (runs definitions input calls) all)
-      (λ xs. (count >> go xs) >>= λ v. rest (Gave v) vs)
-      (λ xs. count >> (go (reverse (take n (reverse xs ++ vs))) >>= λ v. rest (Gave v) (drop n (reverse xs ++ vs))))
+      (λ xs. (count >> go xs) >>= λ v. rest (AtReturn v) vs)
+      (λ xs. count >> (go (reverse (take n (reverse xs ++ vs))) >>= λ v. rest (AtReturn v) (drop n (reverse xs ++ vs))))
       (λ xs l.
-      assoc count (λ _. go xs) (λ v. rest (Gave v) vs)
-      ∙ (λ i. count >> (go (sym (taken xs vs n (l ∙ length-map all (runs definitions input calls) ∙ h)) i) >>= λ v. rest (Gave v) (sym (kept xs vs n (l ∙ length-map all (runs definitions input calls) ∙ h)) i))))
+      assoc count (λ _. go xs) (λ v. rest (AtReturn v) vs)
+      ∙ (λ i. count >> (go (sym (taken xs vs n (l ∙ length-map all (runs definitions input calls) ∙ h)) i) >>= λ v. rest (AtReturn v) (sym (kept xs vs n (l ∙ length-map all (runs definitions input calls) ∙ h)) i))))
 
 module _ (definitions : List Definition) (input : List ℕ) (calls : Calls) where
   -- the first argument, and then the others
-  pub arguments_then : (p : Parameter) (ps : List Parameter) (v : ℕ) (vs : List ℕ) (store : Store) (left : ℕ)
+  pub arguments_then : (p : Parameter) (ps : List Parameter) (v : ℕ) (vs : List ℕ) (store : Store)
+      (left : ℕ)
       → arguments_run definitions input calls (p ∷ ps) (v ∷ vs) store left ≡ then_run (passing_one p v store left) (λ _. arguments_run definitions input calls ps vs)
   arguments_then p ps v vs store left = sym (then_assoc (store_at p.held (store.sp + p.offset) v p.place store left) (λ _. pure tt) (λ _. arguments_run definitions input calls ps vs))
 
-  arguments_first : (p : Parameter) (ps : List Parameter) (v : ℕ) (vs : List ℕ) → Some v ≡ slice_get vs 0 → (store : Store) (left : ℕ)
+  arguments_first : (p : Parameter) (ps : List Parameter) (v : ℕ) (vs : List ℕ)
+      → Some v ≡ slice_get vs 0 → (store : Store) (left : ℕ)
       → arguments_run definitions input calls (p ∷ ps) vs store left ≡ then_run (passing_one p v store left) (λ _. arguments_run definitions input calls ps (drop 1 vs))
   arguments_first p ps v [] is store left = absurd (some_is_not_none v is)
   arguments_first p ps v (w ∷ ws) is store left =
@@ -91,14 +99,17 @@ module _ (definitions : List Definition) (input : List ℕ) (calls : Calls) wher
       arguments_then p ps w ws store left ∙ ap (λ x. then_run (passing_one p x store left) (λ _. arguments_run definitions input calls ps ws)) (sym same)
 
   -- an argument that is at hand, and then the others
-  pub arguments_at : (ps : List Parameter) (i : ℕ) (d : Parameter) (v : ℕ) (vs : List ℕ) → i < length ps → Some v ≡ slice_get vs 0 → (store : Store) (left : ℕ)
+  pub arguments_at : (ps : List Parameter) (i : ℕ) (d : Parameter) (v : ℕ) (vs : List ℕ)
+      → i < length ps → Some v ≡ slice_get vs 0 → (store : Store) (left : ℕ)
       → arguments_run definitions input calls (drop i ps) vs store left ≡ then_run (passing_one (slice_index_or ps i d) v store left) (λ _. arguments_run definitions input calls (drop (i + 1) ps) (drop 1 vs))
   arguments_at ps i d v vs below is store left =
       ap (λ (qs : List Parameter). arguments_run definitions input calls qs vs store left) (drop_more ps i d below)
       ∙ arguments_first (slice_index_or ps i d) (drop (i + 1) ps) v vs is store left
 
   -- no argument is left, or no parameter
-  pub arguments_none : (ps : List Parameter) (vs : List ℕ) → None ≡ slice_get vs 0 → (store : Store) (left : ℕ) → arguments_run definitions input calls ps vs store left ≡ Goes tt store left
+  pub arguments_none : (ps : List Parameter) (vs : List ℕ) → None ≡ slice_get vs 0
+      → (store : Store) (left : ℕ)
+      → arguments_run definitions input calls ps vs store left ≡ Goes tt store left
   arguments_none [] vs is store left = refl
   arguments_none (p ∷ ps) [] is store left = refl
   arguments_none (p ∷ ps) (v ∷ vs) is store left = absurd (some_is_not_none v (sym is))

@@ -5,12 +5,14 @@ use Rattle.c_semantics.specs.declared.flow.Flow.{Flow}
 use Rattle.c_semantics.specs.declared.local.Local.{Local}
 use Rattle.c_semantics.specs.Contents.{Contents}
 use Rattle.c_semantics.specs.Exec.{all_blank, object_at, with_locals}
-use Rattle.c_meaning.specs.Opened.{opened, opened_all}
+use Rattle.c_meaning.specs.private.Opened.{opened, opened_all}
 use Rattle.c_semantics.specs.Run.{Store, Run, pure, ◌>>=◌, ◌>>◌, now, change}
-use Rattle.c_semantics.proofs.Runs.{then_assoc}
+use Rattle.c_semantics.proofs.RunLemmas.{then_assoc}
 
 -- all locals of a block at once, or one behind the other
-pub opened_all_is : (sp : ℕ) (ls : List Local) (c : Contents) → opened_all sp ls c ≡ record { bytes = all_blank sp ls c.bytes; live = c.live ++ map (object_at sp) ls }
+pub opened_all_is : (sp : ℕ) (ls : List Local) (c : Contents)
+    → opened_all sp ls c ≡ record
+    { bytes = all_blank sp ls c.bytes; live = c.live ++ map (object_at sp) ls }
 opened_all_is sp [] c = λ i. record { bytes = c.bytes; live = sym (append-nil c.live) i }
 opened_all_is sp (l ∷ ls) c =
     opened_all_is sp ls (opened sp l c)
@@ -20,7 +22,8 @@ abbrev pub with_open : List Local → Store → Store
 with_open ls store = record store { bytes = (opened_all store.sp ls (record { bytes = store.bytes; live = store.live })).bytes; live = (opened_all store.sp ls (record { bytes = store.bytes; live = store.live })).live }
 
 -- what comes behind a block
-pub with_locals_then : (ls : List Local) (run : Run Flow) (rest : Flow → Run (Option ℕ)) (store : Store) (left : ℕ)
+pub with_locals_then : (ls : List Local) (run : Run Flow) (rest : Flow → Run (Option ℕ))
+    (store : Store) (left : ℕ)
     → (with_locals ls run >>= rest) store left
     ≡ (run >>= λ f. now >>= λ after. change (record after { live = take (length store.live) after.live }) >> rest f) (with_open ls store) left
 with_locals_then ls run rest store left =

@@ -5,8 +5,8 @@ use Rattle.c_meaning.specs.declared.halt.Halt.{Halt}
 use Rattle.c_meaning.specs.declared.machine.Machine.{Machine}
 use Rattle.c_meaning.specs.declared.meant.Meant.{Meant}
 use Rattle.c_meaning.specs.declared.meant.Meant.TheVariants as meant
-use Rattle.c_meaning.specs.Machine.{store_of, Halts}
-use Rattle.c_meaning.specs.Pending.{given_by}
+use Rattle.c_meaning.specs.private.EvaluatorState.{store_of, Halts}
+use Rattle.c_meaning.specs.private.Pending.{given_by}
 use Rattle.c_semantics.specs.Run.{Ended, Goes}
 use Rattle.c_semantics.specs.Meaning.{Meaning, Done, StackFull', More', Undefined'}
 

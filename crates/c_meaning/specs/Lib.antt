@@ -1,9 +1,2 @@
-pub mod Acts
 pub mod Answer
-pub mod Called
-pub mod Machine
-pub mod Opened
-pub mod Outcomes
-pub mod Pending
-pub mod Started
-pub mod Turned
+pub mod private

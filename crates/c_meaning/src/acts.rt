@@ -3,13 +3,13 @@
 ghost use Rattle.std.specs.Prelude.{◌≡◌, ◌||◌, ◌&&◌, ◌≤◌, ◌%◌, ◌^◌, ℕ, ℤ, pos, not, true, ◌+ℤ◌, ◌*ℤ◌, ◌-ℤ◌, neg_ℤ, nat_abs, int_div, FitsSigned, IfSome};
 ghost use Rattle.std.specs.Int.{w32, w64, cast_unsigned};
 ghost use Rattle.c_tree.specs.Constant.{is_shift};
-ghost use Rattle.c_tree.specs.Words.{prefix_word};
-ghost use Rattle.c_meaning.specs.Acts.{stepped_at};
-ghost use Rattle.c_semantics.specs.Eval.{infix_act, combined, assigned, arithmetic, sum, difference, other_act, compared, is_unsigned, is_order, amount, step_operator, step_value, outcome, getchar, put};
-ghost use Rattle.c_meaning.specs.Machine.{Ran, SameSteps};
+ghost use Rattle.c_tree.specs.Arithmetic.{unary_word};
+ghost use Rattle.c_meaning.specs.private.Acts.{stepped_at};
+ghost use Rattle.c_semantics.specs.Eval.{binary_act, combined, assigned, arithmetic, sum, difference, other_act, compared, is_unsigned, is_order, amount, step_operator, step_value, outcome, getchar, put};
+ghost use Rattle.c_meaning.specs.private.EvaluatorState.{Ran, SameSteps};
 ghost use Rattle.c_semantics.specs.Pointers.{along, moved, distance};
 
-use crate::arithmetic::{infix_word, prefix_word};
+use crate::arithmetic::{binary_word, unary_word};
 use crate::halt::Halt;
 use crate::machine::Machine;
 use c_semantics::{Held, Operand};
@@ -88,7 +88,8 @@ impl Elements {
 
 /// The elements from one pointer to another, toward zero, as a word, as far as 32 bits go. The objects of a program that has a layout have no more, and an element of a program that is accepted has bytes.
 fn elements_between(size: u64, x: u32, y: u32) -> Option<u32>
-    ensures { IfSome result (λ count. count ≡ cast_unsigned w32 (int_div (pos x -ℤ pos y) (pos size))) }
+    ensures { IfSome result (λ count. count
+        ≡ cast_unsigned w32 (int_div (pos x -ℤ pos y) (pos size))) }
 {
     let bytes = i64::from(x) - i64::from(y);
     let elements = bytes.checked_div(i64::try_from(size).ok()?)?;
@@ -112,7 +113,7 @@ impl Machine {
         ensures { Ran (arithmetic op c d x y at) self.now self.now result }
     {
         let unsigned = c.is_unsigned() || !is_shift(op) && d.is_unsigned();
-        match infix_word(op, unsigned, x, y) {
+        match binary_word(op, unsigned, x, y) {
             Ok(value) => Ok(value),
             Err(act) => Err(Halt::Undefined(act, at)),
         }
@@ -120,7 +121,8 @@ impl Machine {
 
     /// A destination, where it is along one object with a pointer. Only then does it have to be a word, which it is where a program has a layout.
     fn reach(&self, pointer: u32, to: Destination, at: Place) -> Result<u32, Halt>
-        ensures { Ran (along (pos pointer) to.exact (nat_abs to.exact) at) self.now self.now result }
+        ensures { Ran (along (pos pointer) to.exact (nat_abs to.exact) at) self.now self.now
+            result }
     {
         if !self.memory.along(u64::from(pointer), to.exact) {
             return Err(Halt::Undefined(Undefined::Pointer, at));
@@ -132,7 +134,7 @@ impl Machine {
     }
 
     /// A pointer that is moved by so many elements.
-    fn moved(&self, size: u64, by: Elements, pointer: u32, at: Place) -> Result<u32, Halt>
+    fn move_pointer(&self, size: u64, by: Elements, pointer: u32, at: Place) -> Result<u32, Halt>
         ensures { Ran (moved size by.count pointer at) self.now self.now result }
     {
         match by.destination(size, pointer) {
@@ -152,13 +154,13 @@ impl Machine {
     }
 
     /// Two pointers, compared.
-    fn compared(&self, op: Binary, x: u32, y: u32, at: Place) -> Result<u32, Halt>
+    fn compare(&self, op: Binary, x: u32, y: u32, at: Place) -> Result<u32, Halt>
         ensures { Ran (compared op x y at) self.now self.now result }
     {
         if is_order(op) && !self.memory.along(u64::from(x), i64::from(y)) {
             return Err(Halt::Undefined(Undefined::Pointer, at));
         }
-        match infix_word(op, true, x, y) {
+        match binary_word(op, true, x, y) {
             Ok(value) => Ok(value),
             Err(act) => Err(Halt::Undefined(act, at)),
         }
@@ -169,9 +171,9 @@ impl Machine {
         ensures { Ran (sum c d x y at) self.now self.now result }
     {
         match c {
-            Operand::Pointer(size) => self.moved(size, elements_of(d, y), x, at),
+            Operand::Pointer(size) => self.move_pointer(size, elements_of(d, y), x, at),
             Operand::Signed | Operand::Unsigned => match d {
-                Operand::Pointer(size) => self.moved(size, elements_of(c, x), y, at),
+                Operand::Pointer(size) => self.move_pointer(size, elements_of(c, x), y, at),
                 Operand::Signed | Operand::Unsigned => {
                     self.arithmetic(Binary::Plus, c, d, x, y, at)
                 }
@@ -187,7 +189,7 @@ impl Machine {
             Operand::Pointer(size) => match d {
                 Operand::Pointer(_) => self.distance(size, x, y, at),
                 Operand::Signed | Operand::Unsigned => {
-                    self.moved(size, elements_of(d, y).back(), x, at)
+                    self.move_pointer(size, elements_of(d, y).back(), x, at)
                 }
             },
             Operand::Signed | Operand::Unsigned => {
@@ -209,13 +211,13 @@ impl Machine {
         ensures { Ran (other_act op c d x y at) self.now self.now result }
     {
         match c {
-            Operand::Pointer(_) => self.compared(op, x, y, at),
+            Operand::Pointer(_) => self.compare(op, x, y, at),
             Operand::Signed | Operand::Unsigned => self.arithmetic(op, c, d, x, y, at),
         }
     }
 
     /// What an operator does with two values.
-    pub(crate) fn infix_act(
+    pub(crate) fn binary_act(
         &self,
         op: Binary,
         c: Operand,
@@ -224,7 +226,7 @@ impl Machine {
         y: u32,
         at: Place,
     ) -> Result<u32, Halt>
-        ensures { Ran (infix_act op c d x y at) self.now self.now result }
+        ensures { Ran (binary_act op c d x y at) self.now self.now result }
     {
         match op {
             Binary::Plus => self.sum(c, d, x, y, at),
@@ -234,7 +236,7 @@ impl Machine {
     }
 
     /// Combines what an object holds with a value, and stores it: the value that it held, and the one that it holds.
-    pub(crate) fn combined(
+    pub(crate) fn combine(
         &mut self,
         op: Binary,
         c: Operand,
@@ -249,13 +251,13 @@ impl Machine {
         ensures steps { SameSteps self.old self.new }
     {
         let old = self.load(held, address, own)?;
-        let combined = self.infix_act(op, c, d, old, value, at)?;
+        let combined = self.binary_act(op, c, d, old, value, at)?;
         let new = self.store(held, u64::from(address), combined, at)?;
         Ok((old, new))
     }
 
     /// Assigns a value, combined by an operator with what was there or as it is.
-    pub(crate) fn assigned(
+    pub(crate) fn assign(
         &mut self,
         how: Option<Binary>,
         c: Operand,
@@ -272,15 +274,15 @@ impl Machine {
         match how {
             None => self.store(held, u64::from(address), value, at),
             Some(op) => {
-                let (_, new) = self.combined(op, c, d, held, own, at, address, value)?;
+                let (_, new) = self.combine(op, c, d, held, own, at, address, value)?;
                 Ok(new)
             }
         }
     }
 
     /// Raises or lowers what an object holds by 1.
-    #[tactic(auto, unfolding(crate::specs::Acts::stepped_at))]
-    pub(crate) fn stepped(
+    #[tactic(auto, unfolding(crate::specs::private::Acts::stepped_at))]
+    pub(crate) fn step(
         &mut self,
         how: Step,
         c: Operand,
@@ -292,7 +294,7 @@ impl Machine {
         ensures ran { Ran (stepped_at how c held own at address) self.old self.new result }
         ensures steps { SameSteps self.old self.new }
     {
-        let (old, new) = self.combined(
+        let (old, new) = self.combine(
             operator_of(how),
             c,
             Operand::Signed,
@@ -309,16 +311,16 @@ impl Machine {
     }
 
     /// What an operator does with one value.
-    pub(crate) fn prefix_act(
+    pub(crate) fn unary_act(
         &self,
         op: Unary,
         c: Operand,
         value: u32,
         at: Place,
     ) -> Result<u32, Halt>
-        ensures { Ran (outcome (prefix_word op (is_unsigned c) value) at) self.now self.now result }
+        ensures { Ran (outcome (unary_word op (is_unsigned c) value) at) self.now self.now result }
     {
-        match prefix_word(op, c.is_unsigned(), value) {
+        match unary_word(op, c.is_unsigned(), value) {
             Ok(word) => Ok(word),
             Err(act) => Err(Halt::Undefined(act, at)),
         }

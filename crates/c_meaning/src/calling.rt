@@ -1,15 +1,15 @@
 //! Calls of functions.
 
 ghost use Rattle.std.specs.Prelude.{◌≡◌, ◌<◌, ℕ, suc, List, IfOk, OnOk, drop, reverse, take};
-ghost use Rattle.c_tree.specs.Syntax.{Part};
+ghost use Rattle.c_tree.specs.Item.{Item};
 ghost use Rattle.c_resolve.specs.Actions.{arguments_run};
-ghost use Rattle.c_meaning.specs.Called.{passing_one, entered_after, routine_after, target_after};
+ghost use Rattle.c_meaning.specs.private.Called.{passing_one, entered_after, routine_after, target_after};
 ghost use Rattle.c_semantics.specs.Eval.{Calls};
-ghost use Rattle.c_meaning.specs.Machine.{Ran};
+ghost use Rattle.c_meaning.specs.private.EvaluatorState.{Ran};
 ghost use Rattle.c_semantics.specs.Meaning.{value_of_flow};
 ghost use Rattle.c_semantics.specs.Names.{Definition};
 ghost use Rattle.c_resolve.specs.Routines.{definitions_of, AreRoutinesOf};
-ghost use Rattle.c_meaning.specs.Turned.{task_after, work_after, all_after, Turned};
+ghost use Rattle.c_meaning.specs.private.Turned.{task_after, Turned, Passes, PassesAtOnce};
 ghost use Rattle.c_semantics.specs.declared.flow.Flow.TheVariants.{Normal};
 ghost use Rattle.c_resolve.specs.declared.node.Target.TheVariants as target;
 ghost use Rattle.c_meaning.specs.declared.pending.Edge.TheVariants as edge;
@@ -27,7 +27,8 @@ use c_tree::{OutOfMemory, Place, Undefined};
 
 /// Takes so many of the topmost values, in the order in which they came.
 fn take_values(values: &mut Vec<u32>, count: usize) -> Result<Vec<u32>, OutOfMemory>
-    ensures taken { IfOk result (λ taken. taken.items ≡ reverse (take count (reverse values.old.items))) }
+    ensures taken { IfOk result
+        (λ taken. taken.items ≡ reverse (take count (reverse values.old.items))) }
     ensures left { OnOk result (reverse values.new.items ≡ drop count (reverse values.old.items)) }
 {
     let from = values.len().saturating_sub(count);
@@ -46,7 +47,9 @@ impl Machine {
 
     /// Puts arguments into their parameters.
     fn pass_all(&mut self, parameters: &[Parameter], arguments: &[u32]) -> Result<(), Halt>
-        ensures { (definitions : List Definition) (input : List ℕ) (calls : Calls) → Ran (arguments_run definitions input calls parameters.now arguments.now) self.old self.new result }
+        ensures { (definitions : List Definition) (input : List ℕ) (calls : Calls)
+            → Ran (arguments_run definitions input calls parameters.now arguments.now) self.old
+            self.new result }
     {
         let mut rest = arguments;
         for parameter in parameters {
@@ -70,7 +73,10 @@ fn begin<'a>(
     arguments: &[u32],
 ) -> Result<(), Halt>
     requires { pending.old.flow ≡ Normal }
-    ensures { (definitions : List Definition) (text : List Part) (input : List ℕ) → Turned definitions text input (entered_after definitions text input routine.now arguments.now pending.old machine.old) pending.new machine.new result }
+    ensures { (definitions : List Definition) (text : List Item) (input : List ℕ)
+        → Turned definitions text input
+        (entered_after definitions text input routine.now arguments.now pending.old
+        machine.old) pending.new machine.new result }
 {
     let live = machine.memory.live_count();
     pending.work.push(Work::Edge(Edge::Close(live)))?;
@@ -88,7 +94,11 @@ fn enter<'a>(
 ) -> Result<(), Halt>
     requires flow { pending.old.flow ≡ Normal }
     requires depth { 0 < pending.old.depth }
-    ensures { (definitions : List Definition) (text : List Part) (input : List ℕ) (depth : ℕ) → pending.old.depth ≡ suc depth → Turned definitions text input (routine_after definitions text input routine.now arguments.now depth pending.old machine.old) pending.new machine.new result }
+    ensures { (definitions : List Definition) (text : List Item) (input : List ℕ) (depth : ℕ)
+        → pending.old.depth ≡ suc depth
+        → Turned definitions text input
+        (routine_after definitions text input routine.now arguments.now depth pending.old
+        machine.old) pending.new machine.new result }
 {
     if u64::from(machine.sp) < u64::from(STACK_FROM) + u64::from(routine.frame) {
         return Err(Halt::StackFull);
@@ -110,10 +120,14 @@ fn call_routine<'a>(
     routines: &'a [Routine],
 ) -> Result<(), Halt>
     requires { pending.old.flow ≡ Normal }
-    ensures { (text : List Part) (input : List ℕ) → AreRoutinesOf text routines.entry.now → Turned (definitions_of text) text input (target_after (definitions_of text) text input (target.Function number) arguments.now pending.old machine.old) pending.new machine.new result }
+    ensures { (text : List Item) (input : List ℕ) → AreRoutinesOf text routines.entry.now
+        → Turned (definitions_of text) text input
+        (target_after (definitions_of text) text input
+        (target.Function number) arguments.now pending.old machine.old) pending.new machine.new
+        result }
 {
     let Some(routine) = routines.get(number as usize) else {
-        pending.flow = Flow::Gave(None);
+        pending.flow = Flow::AtReturn(None);
         return Ok(());
     };
     if pending.depth == 0 {
@@ -132,27 +146,32 @@ fn run_target<'a>(
     input: &[u8],
 ) -> Result<(), Halt>
     requires { pending.old.flow ≡ Normal }
-    ensures { (text : List Part) → AreRoutinesOf text routines.entry.now → Turned (definitions_of text) text input.now (target_after (definitions_of text) text input.now target arguments.now pending.old machine.old) pending.new machine.new result }
+    ensures { (text : List Item) → AreRoutinesOf text routines.entry.now
+        → Turned (definitions_of text) text input.now
+        (target_after (definitions_of text) text input.now target arguments.now pending.old
+        machine.old) pending.new machine.new result }
 {
     match target {
         Target::Function(number) => call_routine(pending, machine, number, arguments, routines),
         Target::Getchar => {
-            pending.flow = Flow::Gave(machine.getchar(input)?);
+            pending.flow = Flow::AtReturn(machine.getchar(input)?);
             Ok(())
         }
         Target::Putchar => {
-            pending.flow = Flow::Gave(machine.putchar(arguments.first().copied().unwrap_or(0))?);
+            pending.flow = Flow::AtReturn(machine.putchar(
+                arguments.first().copied().unwrap_or(0),
+            )?);
             Ok(())
         }
         Target::Undefined => {
-            pending.flow = Flow::Gave(None);
+            pending.flow = Flow::AtReturn(None);
             Ok(())
         }
     }
 }
 
 /// A call, whose arguments are the topmost values.
-pub(crate) fn call<'a>(
+pub(crate) fn run_call<'a>(
     pending: &mut Pending<'a>,
     machine: &mut Machine,
     target: Target,
@@ -161,7 +180,10 @@ pub(crate) fn call<'a>(
     input: &[u8],
 ) -> Result<(), Halt>
     requires { pending.old.flow ≡ Normal }
-    ensures { (text : List Part) → AreRoutinesOf text routines.entry.now → Turned (definitions_of text) text input.now (task_after (definitions_of text) text input.now (task.Call target count) pending.old machine.old) pending.new machine.new result }
+    ensures { (text : List Item) → AreRoutinesOf text routines.entry.now
+        → Turned (definitions_of text) text input.now
+        (task_after (definitions_of text) text input.now
+        (task.Call target count) pending.old machine.old) pending.new machine.new result }
 {
     machine.count()?;
     let arguments = take_values(&mut pending.values, count)?;
@@ -174,9 +196,9 @@ pub(crate) fn take_value(
     machine: &mut Machine,
     at: Place,
 ) -> Result<(), Halt>
-    ensures { (definitions : List Definition) (text : List Part) (input : List ℕ) → Turned definitions text input (work_after definitions text input (item.Edge (edge.Use at)) pending.old machine.old) pending.new machine.new result }
+    ensures { Passes (edge.Use at) pending.old machine.old pending.new machine.new result }
 {
-    let Flow::Gave(Some(value)) = pending.flow else {
+    let Flow::AtReturn(Some(value)) = pending.flow else {
         return Err(Halt::Undefined(Undefined::NoValue, at));
     };
     pending.flow = Flow::Normal;
@@ -186,7 +208,7 @@ pub(crate) fn take_value(
 
 /// The value of a call isn't used.
 pub(crate) fn forget(pending: &mut Pending<'_>, machine: &mut Machine)
-    ensures { (definitions : List Definition) (text : List Part) (input : List ℕ) → work_after definitions text input (item.Edge edge.Forget) pending.old machine.old ≡ all_after definitions text input pending.new machine.new }
+    ensures { PassesAtOnce edge.Forget pending.old machine.old pending.new machine.new }
 {
     pending.flow = Flow::Normal;
 }
@@ -196,7 +218,7 @@ fn value_of_flow(is_main: bool, flow: Flow) -> Option<u32>
     ensures { result ≡ value_of_flow is_main flow }
 {
     match flow {
-        Flow::Gave(value) => value,
+        Flow::AtReturn(value) => value,
         _ => is_main.then_some(0),
     }
 }
@@ -208,10 +230,11 @@ pub(crate) fn leave(
     sp: u32,
     is_main: bool,
 ) -> Result<(), Halt>
-    ensures { (definitions : List Definition) (text : List Part) (input : List ℕ) → Turned definitions text input (work_after definitions text input (item.Edge (edge.Leave sp is_main)) pending.old machine.old) pending.new machine.new result }
+    ensures { Passes (edge.Leave sp is_main) pending.old machine.old pending.new machine.new
+        result }
 {
     pending.depth = pending.depth.checked_add(1).ok_or(Halt::OutOfMemory)?;
-    pending.flow = Flow::Gave(value_of_flow(is_main, pending.flow));
+    pending.flow = Flow::AtReturn(value_of_flow(is_main, pending.flow));
     machine.sp = sp;
     Ok(())
 }

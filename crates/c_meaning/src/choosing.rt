@@ -1,10 +1,8 @@
 //! Tasks that plan other work, by the values that are at hand.
 
-ghost use Rattle.std.specs.Prelude.{◌≡◌, ℕ, List, reverse};
+ghost use Rattle.std.specs.Prelude.{◌≡◌};
 ghost use Rattle.c_tree.specs.Constant.{decides};
-ghost use Rattle.c_tree.specs.Syntax.{Part};
-ghost use Rattle.c_semantics.specs.Names.{Definition};
-ghost use Rattle.c_meaning.specs.Turned.{all_after, task_after, Turned};
+ghost use Rattle.c_meaning.specs.private.Turned.{Does, DoesAtOnce};
 ghost use Rattle.c_semantics.specs.declared.flow.Flow.TheVariants.{Normal};
 ghost use Rattle.c_meaning.specs.declared.pending.Task.TheVariants as task;
 
@@ -29,14 +27,15 @@ fn decides(op: Binary, value: u32) -> bool
 }
 
 /// The right operand, where the left one doesn't decide.
-pub(crate) fn decide<'a>(
+pub(crate) fn run_logic<'a>(
     pending: &mut Pending<'a>,
     machine: &mut Machine,
     op: Binary,
     right: &'a Node,
 ) -> Result<(), Halt>
     requires { pending.old.flow ≡ Normal }
-    ensures { (definitions : List Definition) (text : List Part) (input : List ℕ) → Turned definitions text input (task_after definitions text input (task.Decide op right.entry) pending.old machine.old) pending.new machine.new result }
+    ensures { Does (task.Logic op right.entry) pending.old machine.old pending.new machine.new
+        result }
 {
     let left = pop(&mut pending.values);
     if decides(op, left) {
@@ -49,14 +48,15 @@ pub(crate) fn decide<'a>(
 }
 
 /// One of two expressions, by the value of the test.
-pub(crate) fn choose<'a>(
+pub(crate) fn run_conditional<'a>(
     pending: &mut Pending<'a>,
     machine: &mut Machine,
     first: &'a Node,
     other: &'a Node,
 ) -> Result<(), Halt>
     requires { pending.old.flow ≡ Normal }
-    ensures { (definitions : List Definition) (text : List Part) (input : List ℕ) → Turned definitions text input (task_after definitions text input (task.Choose first.entry other.entry) pending.old machine.old) pending.new machine.new result }
+    ensures { Does (task.Conditional first.entry other.entry) pending.old machine.old pending.new
+        machine.new result }
 {
     let test = pop(&mut pending.values);
     if test == 0 {
@@ -69,38 +69,40 @@ pub(crate) fn choose<'a>(
 }
 
 /// One of two statements, by the value of the test.
-pub(crate) fn branch<'a>(
+pub(crate) fn run_if<'a>(
     pending: &mut Pending<'a>,
     machine: &mut Machine,
     first: &'a Action,
     other: Option<&'a Action>,
 ) -> Result<(), Halt>
     requires { pending.old.flow ≡ Normal }
-    ensures { (definitions : List Definition) (text : List Part) (input : List ℕ) → Turned definitions text input (task_after definitions text input (task.Branch first.entry other.entry) pending.old machine.old) pending.new machine.new result }
+    ensures { Does (task.If first.entry other.entry) pending.old machine.old pending.new
+        machine.new result }
 {
     let test = pop(&mut pending.values);
     if test != 0 {
-        plan(&mut pending.work, &[Task::Do(first)])?;
+        plan(&mut pending.work, &[Task::Execute(first)])?;
         return Ok(());
     }
     match other {
         None => Ok(()),
         Some(other) => {
-            plan(&mut pending.work, &[Task::Do(other)])?;
+            plan(&mut pending.work, &[Task::Execute(other)])?;
             Ok(())
         }
     }
 }
 
 /// Expressions, one behind the other.
-#[tactic(auto, using(c_semantics::proofs::Runs::assoc))]
-pub(crate) fn values<'a>(
+#[tactic(auto, using(c_semantics::proofs::RunLemmas::assoc))]
+pub(crate) fn run_values<'a>(
     pending: &mut Pending<'a>,
     machine: &mut Machine,
     nodes: &'a [Node],
 ) -> Result<(), Halt>
     requires { pending.old.flow ≡ Normal }
-    ensures { (definitions : List Definition) (text : List Part) (input : List ℕ) → Turned definitions text input (task_after definitions text input (task.Values nodes.entry) pending.old machine.old) pending.new machine.new result }
+    ensures { Does (task.Values nodes.entry) pending.old machine.old pending.new machine.new
+        result }
 {
     match nodes {
         [] => Ok(()),
@@ -115,40 +117,40 @@ pub(crate) fn values<'a>(
 }
 
 /// Statements, one behind the other.
-#[tactic(auto, using(c_semantics::proofs::Runs::assoc))]
-pub(crate) fn all<'a>(
+#[tactic(auto, using(c_semantics::proofs::RunLemmas::assoc))]
+pub(crate) fn run_all<'a>(
     pending: &mut Pending<'a>,
     machine: &mut Machine,
     actions: &'a [Action],
 ) -> Result<(), Halt>
     requires { pending.old.flow ≡ Normal }
-    ensures { (definitions : List Definition) (text : List Part) (input : List ℕ) → Turned definitions text input (task_after definitions text input (task.All actions.entry) pending.old machine.old) pending.new machine.new result }
+    ensures { Does (task.All actions.entry) pending.old machine.old pending.new machine.new result }
 {
     match actions {
         [] => Ok(()),
         [first, rest @ ..] => {
-            plan(&mut pending.work, &[Task::Do(first), Task::All(rest)])?;
+            plan(&mut pending.work, &[Task::Execute(first), Task::All(rest)])?;
             Ok(())
         }
     }
 }
 
-pub(crate) fn end(pending: &mut Pending<'_>, machine: &mut Machine, flow: Flow)
+pub(crate) fn run_end(pending: &mut Pending<'_>, machine: &mut Machine, flow: Flow)
     requires { pending.old.flow ≡ Normal }
-    ensures { (definitions : List Definition) (text : List Part) (input : List ℕ) → task_after definitions text input (task.End flow) pending.old machine.old ≡ all_after definitions text input pending.new machine.new }
+    ensures { DoesAtOnce (task.End flow) pending.old machine.old pending.new machine.new }
 {
     pending.flow = flow;
 }
 
 /// What a declarator does as it is passed.
-#[tactic(auto, using(c_semantics::proofs::Runs::assoc))]
-pub(crate) fn pass_one<'a>(
+#[tactic(auto, using(c_semantics::proofs::RunLemmas::assoc))]
+pub(crate) fn run_var<'a>(
     pending: &mut Pending<'a>,
     machine: &mut Machine,
     passed: &'a Passed,
 ) -> Result<(), Halt>
     requires { pending.old.flow ≡ Normal }
-    ensures { (definitions : List Definition) (text : List Part) (input : List ℕ) → Turned definitions text input (task_after definitions text input (task.PassOne passed.entry) pending.old machine.old) pending.new machine.new result }
+    ensures { Does (task.Var passed.entry) pending.old machine.old pending.new machine.new result }
 {
     let local = passed.local;
     match &passed.begun {
@@ -162,7 +164,7 @@ pub(crate) fn pass_one<'a>(
                 &mut pending.work,
                 &[
                     Task::Eval(Wanted::Value, node),
-                    Task::Set(local, *held, passed.place),
+                    Task::Init(local, *held, passed.place),
                 ],
             )?;
             Ok(())
@@ -172,18 +174,18 @@ pub(crate) fn pass_one<'a>(
 }
 
 /// Declarators, one behind the other.
-pub(crate) fn pass<'a>(
+pub(crate) fn run_vars<'a>(
     pending: &mut Pending<'a>,
     machine: &mut Machine,
     passed: &'a [Passed],
 ) -> Result<(), Halt>
     requires { pending.old.flow ≡ Normal }
-    ensures { (definitions : List Definition) (text : List Part) (input : List ℕ) → Turned definitions text input (task_after definitions text input (task.Pass passed.entry) pending.old machine.old) pending.new machine.new result }
+    ensures { Does (task.Vars passed.entry) pending.old machine.old pending.new machine.new result }
 {
     match passed {
         [] => Ok(()),
         [first, rest @ ..] => {
-            plan(&mut pending.work, &[Task::PassOne(first), Task::Pass(rest)])?;
+            plan(&mut pending.work, &[Task::Var(first), Task::Vars(rest)])?;
             Ok(())
         }
     }

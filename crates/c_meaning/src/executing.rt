@@ -2,8 +2,8 @@
 
 ghost use Rattle.std.specs.Prelude.{OnOk};
 ghost use Rattle.std.specs.Option.{option_copied};
-ghost use Rattle.c_resolve.specs.Actions.{action_run, beginning_run, block_run, for_loop, given, returned, step_run, test_run, branch, declaration, do_loop, ends_with, evaluated, passing, unused_run, value_run, while_loop, optional_run};
-ghost use Rattle.c_meaning.specs.Turned.{PlansFlow};
+ghost use Rattle.c_resolve.specs.Actions.{action_run, first_run, block_run, for_run, return_flow_run, return_run, step_run, test_run, if_run, vars_run, do_run, ends_with, expr_run, passing, unused_run, value_run, while_run, optional_run};
+ghost use Rattle.c_meaning.specs.private.Turned.{PlansFlow};
 
 use crate::pending::{Edge, Loop, Stage, Task, Wanted, Work};
 use crate::planning::plan;
@@ -12,58 +12,73 @@ use c_semantics::{Flow, Held, Local};
 use c_tree::OutOfMemory;
 
 /// A statement that only ends.
-#[tactic(auto, using(c_semantics::proofs::Runs::assoc))]
-fn end(work: &mut Vec<Work<'_>>, flow: Flow) -> Result<(), OutOfMemory>
-    ensures { OnOk result (PlansFlow (λ definitions input calls. ends_with flow) work.old.items work.new.items) }
+#[tactic(auto, using(c_semantics::proofs::RunLemmas::assoc))]
+fn plan_end(work: &mut Vec<Work<'_>>, flow: Flow) -> Result<(), OutOfMemory>
+    ensures { OnOk result (PlansFlow
+        (λ definitions input calls. ends_with flow) work.old.items work.new.items) }
 {
     plan(work, &[Task::Count, Task::End(flow)])
 }
 
-#[tactic(auto, using(c_semantics::proofs::Runs::assoc))]
-fn evaluate<'a>(work: &mut Vec<Work<'a>>, node: &'a Node) -> Result<(), OutOfMemory>
-    ensures { OnOk result (PlansFlow (λ definitions input calls. evaluated (unused_run definitions input calls node.now)) work.old.items work.new.items) }
+#[tactic(auto, using(c_semantics::proofs::RunLemmas::assoc))]
+fn plan_expr<'a>(work: &mut Vec<Work<'a>>, node: &'a Node) -> Result<(), OutOfMemory>
+    ensures { OnOk result (PlansFlow
+        (λ definitions input calls. expr_run (unused_run definitions input calls node.now))
+        work.old.items work.new.items) }
 {
     plan(work, &[Task::Count, Task::Eval(Wanted::Nothing, node)])
 }
 
-#[tactic(auto, using(c_semantics::proofs::Runs::assoc))]
-fn declare<'a>(
+#[tactic(auto, using(c_semantics::proofs::RunLemmas::assoc))]
+fn plan_vars<'a>(
     work: &mut Vec<Work<'a>>,
     counted: bool,
     passed: &'a [Passed],
 ) -> Result<(), OutOfMemory>
-    ensures { OnOk result (PlansFlow (λ definitions input calls. declaration counted (passing definitions input calls passed.now)) work.old.items work.new.items) }
+    ensures { OnOk result (PlansFlow
+        (λ definitions input calls. vars_run counted (passing definitions input calls passed.now))
+        work.old.items work.new.items) }
 {
     if counted {
-        plan(work, &[Task::Count, Task::Pass(passed)])
+        plan(work, &[Task::Count, Task::Vars(passed)])
     } else {
-        plan(work, &[Task::Pass(passed)])
+        plan(work, &[Task::Vars(passed)])
     }
 }
 
 /// An `if`, with an `else` or without.
-#[tactic(auto, using(c_semantics::proofs::Runs::assoc))]
-fn choose<'a>(
+#[tactic(auto, using(c_semantics::proofs::RunLemmas::assoc))]
+fn plan_if<'a>(
     work: &mut Vec<Work<'a>>,
     test: &'a Node,
     body: &'a Action,
     other: Option<&'a Action>,
 ) -> Result<(), OutOfMemory>
-    ensures { OnOk result (PlansFlow (λ definitions input calls. branch (value_run definitions input calls test.now) (action_run definitions input calls body.now) (optional_run definitions input calls (option_copied other.entry))) work.old.items work.new.items) }
+    ensures { OnOk result (PlansFlow
+        (λ definitions input calls. if_run (value_run definitions input calls test.now)
+        (action_run definitions input calls body.now)
+        (optional_run definitions input calls (option_copied other.entry))) work.old.items
+        work.new.items) }
 {
     plan(
         work,
         &[
             Task::Count,
             Task::Eval(Wanted::Value, test),
-            Task::Branch(body, other),
+            Task::If(body, other),
         ],
     )
 }
 
-#[tactic(auto, using(c_semantics::proofs::Runs::assoc))]
-fn repeat<'a>(work: &mut Vec<Work<'a>>, test: &'a Node, body: &'a Action) -> Result<(), OutOfMemory>
-    ensures { OnOk result (PlansFlow (λ definitions input calls. while_loop (value_run definitions input calls test.now) (action_run definitions input calls body.now)) work.old.items work.new.items) }
+#[tactic(auto, using(c_semantics::proofs::RunLemmas::assoc))]
+fn plan_while<'a>(
+    work: &mut Vec<Work<'a>>,
+    test: &'a Node,
+    body: &'a Action,
+) -> Result<(), OutOfMemory>
+    ensures { OnOk result (PlansFlow
+        (λ definitions input calls. while_run (value_run definitions input calls test.now)
+        (action_run definitions input calls body.now)) work.old.items work.new.items) }
 {
     let parts = Loop {
         test: Some(test),
@@ -74,12 +89,14 @@ fn repeat<'a>(work: &mut Vec<Work<'a>>, test: &'a Node, body: &'a Action) -> Res
 }
 
 /// A `do`, whose body is executed before its first test.
-fn repeat_once<'a>(
+fn plan_do<'a>(
     work: &mut Vec<Work<'a>>,
     body: &'a Action,
     test: &'a Node,
 ) -> Result<(), OutOfMemory>
-    ensures { OnOk result (PlansFlow (λ definitions input calls. do_loop (action_run definitions input calls body.now) (value_run definitions input calls test.now)) work.old.items work.new.items) }
+    ensures { OnOk result (PlansFlow
+        (λ definitions input calls. do_run (action_run definitions input calls body.now)
+        (value_run definitions input calls test.now)) work.old.items work.new.items) }
 {
     let parts = Loop {
         test: Some(test),
@@ -87,13 +104,13 @@ fn repeat_once<'a>(
         body,
     };
     work.push(Work::Edge(Edge::Turned(Stage::Begins, parts)))?;
-    plan(work, &[Task::Count, Task::Count, Task::Do(body)])?;
+    plan(work, &[Task::Count, Task::Count, Task::Execute(body)])?;
     Ok(())
 }
 
 /// A `for`.
-#[tactic(auto, using(c_semantics::proofs::Runs::assoc))]
-fn repeat_from<'a>(
+#[tactic(auto, using(c_semantics::proofs::RunLemmas::assoc))]
+fn plan_for<'a>(
     work: &mut Vec<Work<'a>>,
     locals: &'a [Local],
     first: &'a Beginning,
@@ -101,74 +118,86 @@ fn repeat_from<'a>(
     step: Option<&'a Node>,
     body: &'a Action,
 ) -> Result<(), OutOfMemory>
-    ensures { OnOk result (PlansFlow (λ definitions input calls. for_loop locals.now (beginning_run definitions input calls first.now) (test_run definitions input calls (option_copied test.entry)) (step_run definitions input calls (option_copied step.entry)) (action_run definitions input calls body.now)) work.old.items work.new.items) }
+    ensures { OnOk result (PlansFlow
+        (λ definitions input calls. for_run locals.now
+        (first_run definitions input calls first.now)
+        (test_run definitions input calls (option_copied test.entry))
+        (step_run definitions input calls (option_copied step.entry))
+        (action_run definitions input calls body.now)) work.old.items work.new.items) }
 {
     let parts = Loop { test, step, body };
     plan(work, &[Task::Count, Task::For(locals, first, parts)])
 }
 
 /// A `return`.
-#[tactic(auto, using(c_semantics::proofs::Runs::assoc))]
-fn give<'a>(
+#[tactic(auto, using(c_semantics::proofs::RunLemmas::assoc))]
+fn plan_return<'a>(
     work: &mut Vec<Work<'a>>,
     held: Held,
     value: Option<&'a Node>,
 ) -> Result<(), OutOfMemory>
-    ensures { OnOk result (PlansFlow (λ definitions input calls. returned (given definitions input calls held (option_copied value.entry))) work.old.items work.new.items) }
+    ensures { OnOk result (PlansFlow
+        (λ definitions input calls. return_run
+        (return_flow_run definitions input calls held (option_copied value.entry)))
+        work.old.items work.new.items) }
 {
     match value {
-        None => plan(work, &[Task::Count, Task::End(Flow::Gave(None))]),
+        None => plan(work, &[Task::Count, Task::End(Flow::AtReturn(None))]),
         Some(value) => plan(
             work,
             &[
                 Task::Count,
                 Task::Eval(Wanted::Value, value),
-                Task::Give(held),
+                Task::Return(held),
             ],
         ),
     }
 }
 
-#[tactic(auto, using(c_semantics::proofs::Runs::assoc))]
-fn block<'a>(
+#[tactic(auto, using(c_semantics::proofs::RunLemmas::assoc))]
+fn plan_block<'a>(
     work: &mut Vec<Work<'a>>,
     locals: &'a [Local],
     body: &'a [Action],
 ) -> Result<(), OutOfMemory>
-    ensures { OnOk result (PlansFlow (λ definitions input calls. block_run definitions input calls locals.now body.now) work.old.items work.new.items) }
+    ensures { OnOk result (PlansFlow
+        (λ definitions input calls. block_run definitions input calls locals.now body.now)
+        work.old.items work.new.items) }
 {
     plan(work, &[Task::Block(locals, body)])
 }
 
 /// What is to be done for a statement.
-#[tactic(auto, using(c_resolve::proofs::Views::views))]
-pub(crate) fn statement<'a>(work: &mut Vec<Work<'a>>, action: &'a Action) -> Result<(), OutOfMemory>
-    ensures { OnOk result (PlansFlow (λ definitions input calls. action_run definitions input calls action.now) work.old.items work.new.items) }
+#[tactic(auto, using(c_resolve::proofs::ActionViews::views))]
+pub(crate) fn plan_stmt<'a>(work: &mut Vec<Work<'a>>, action: &'a Action) -> Result<(), OutOfMemory>
+    ensures { OnOk result (PlansFlow
+        (λ definitions input calls. action_run definitions input calls action.now) work.old.items
+        work.new.items) }
 {
     match action {
-        Action::Nothing => end(work, Flow::Normal),
-        Action::Evaluate(node) => evaluate(work, node),
-        Action::Declare(counted, passed) => declare(work, *counted, passed),
+        Action::Empty => plan_end(work, Flow::Normal),
+        Action::Expr(node) => plan_expr(work, node),
+        Action::Vars(counted, passed) => plan_vars(work, *counted, passed),
         Action::Block(locals, body) => {
-            block(work, locals, body)?;
+            plan_block(work, locals, body)?;
             Ok(())
         }
-        Action::Branch(test, body) => {
-            choose(work, test, body, None)?;
+        Action::If(test, body) => {
+            plan_if(work, test, body, None)?;
             Ok(())
         }
-        Action::Fork(test, body, other) => {
-            choose(work, test, body, Some(other))?;
+        Action::IfElse(test, body, other) => {
+            plan_if(work, test, body, Some(other))?;
             Ok(())
         }
-        Action::While(test, body) => repeat(work, test, body),
-        Action::DoWhile(body, test) => repeat_once(work, body, test),
+        Action::While(test, body) => plan_while(work, test, body),
+        Action::Do(body, test) => plan_do(work, body, test),
         Action::For(locals, first, test, step, body) => {
-            repeat_from(work, locals, first, test.as_ref(), step.as_ref(), body)?;
+            plan_for(work, locals, first, test.as_ref(), step.as_ref(), body)?;
             Ok(())
         }
-        Action::Return(held, value) => give(work, *held, value.as_ref()),
-        Action::Break => end(work, Flow::Broke),
-        Action::Continue => end(work, Flow::Continued),
+        Action::Return(held, value) => plan_return(work, *held, value.as_ref()),
+        Action::Break => plan_end(work, Flow::AtBreak),
+        Action::Continue => plan_end(work, Flow::AtContinue),
     }
 }

@@ -1,10 +1,8 @@
 //! Loops.
 
-ghost use Rattle.std.specs.Prelude.{◌≡◌, ℕ, List, OnOk};
-ghost use Rattle.c_tree.specs.Syntax.{Part};
-ghost use Rattle.c_semantics.specs.Names.{Definition};
-ghost use Rattle.c_meaning.specs.Pending.{loop_again};
-ghost use Rattle.c_meaning.specs.Turned.{all_after, task_after, work_after, PlansFlow, Turned};
+ghost use Rattle.std.specs.Prelude.{◌≡◌, OnOk};
+ghost use Rattle.c_meaning.specs.private.Pending.{loop_again};
+ghost use Rattle.c_meaning.specs.private.Turned.{PlansFlow, Turned, Does, Passes};
 ghost use Rattle.c_semantics.specs.declared.flow.Flow.TheVariants.{Normal};
 ghost use Rattle.c_meaning.specs.declared.pending.Edge.TheVariants as edge;
 ghost use Rattle.c_meaning.specs.declared.pending.Stage.TheVariants as stage;
@@ -20,13 +18,14 @@ use c_semantics::Flow;
 use c_tree::OutOfMemory;
 
 /// A loop that begins tests at most once more than there are steps, since each test but the last is followed by one. A step was taken before, so one more can be counted.
-pub(crate) fn begin<'a>(
+pub(crate) fn begin_loop<'a>(
     pending: &mut Pending<'a>,
     machine: &mut Machine,
     parts: Loop<'a>,
 ) -> Result<(), Halt>
     requires { pending.old.flow ≡ Normal }
-    ensures { (definitions : List Definition) (text : List Part) (input : List ℕ) → Turned definitions text input (task_after definitions text input (task.Loop stage.Begins parts.entry) pending.old machine.old) pending.new machine.new result }
+    ensures { Does (task.Loop stage.Begins parts.entry) pending.old machine.old pending.new
+        machine.new result }
 {
     let Some(most) = machine.left.checked_add(1) else {
         return Err(Halt::OutOfMemory);
@@ -36,15 +35,16 @@ pub(crate) fn begin<'a>(
 }
 
 /// A loop tests. A test that is left out holds.
-#[tactic(auto, using(c_semantics::proofs::Runs::assoc))]
-pub(crate) fn test<'a>(
+#[tactic(auto, using(c_semantics::proofs::RunLemmas::assoc))]
+pub(crate) fn test_loop<'a>(
     pending: &mut Pending<'a>,
     machine: &mut Machine,
     most: u64,
     parts: Loop<'a>,
 ) -> Result<(), Halt>
     requires { pending.old.flow ≡ Normal }
-    ensures { (definitions : List Definition) (text : List Part) (input : List ℕ) → Turned definitions text input (task_after definitions text input (task.Loop (stage.Tests most) parts.entry) pending.old machine.old) pending.new machine.new result }
+    ensures { Does (task.Loop (stage.Tests most) parts.entry) pending.old machine.old pending.new
+        machine.new result }
 {
     if most == 0 {
         return Err(Halt::More);
@@ -72,15 +72,16 @@ pub(crate) fn test<'a>(
 }
 
 /// A loop has tested.
-#[tactic(auto, using(c_semantics::proofs::Runs::assoc))]
-pub(crate) fn turn<'a>(
+#[tactic(auto, using(c_semantics::proofs::RunLemmas::assoc))]
+pub(crate) fn turn_loop<'a>(
     pending: &mut Pending<'a>,
     machine: &mut Machine,
     most: u64,
     parts: Loop<'a>,
 ) -> Result<(), Halt>
     requires { pending.old.flow ≡ Normal }
-    ensures { (definitions : List Definition) (text : List Part) (input : List ℕ) → Turned definitions text input (task_after definitions text input (task.Loop (stage.Turns most) parts.entry) pending.old machine.old) pending.new machine.new result }
+    ensures { Does (task.Loop (stage.Turns most) parts.entry) pending.old machine.old pending.new
+        machine.new result }
 {
     if pop(&mut pending.values) == 0 {
         return Ok(());
@@ -89,26 +90,34 @@ pub(crate) fn turn<'a>(
     pending
         .work
         .push(Work::Edge(Edge::Turned(Stage::Tests(most), parts)))?;
-    plan(&mut pending.work, &[Task::Do(parts.body)])?;
+    plan(&mut pending.work, &[Task::Execute(parts.body)])?;
     Ok(())
 }
 
 /// How a loop goes on that has turned.
-#[tactic(auto, using(c_semantics::proofs::Runs::assoc))]
-fn again<'a>(work: &mut Vec<Work<'a>>, how: Stage, parts: Loop<'a>) -> Result<(), OutOfMemory>
-    ensures { OnOk result (PlansFlow (λ definitions input calls. loop_again definitions input calls how parts.entry) work.old.items work.new.items) }
+#[tactic(auto, using(c_semantics::proofs::RunLemmas::assoc))]
+fn plan_again<'a>(work: &mut Vec<Work<'a>>, how: Stage, parts: Loop<'a>) -> Result<(), OutOfMemory>
+    ensures { OnOk result (PlansFlow
+        (λ definitions input calls. loop_again definitions input calls how parts.entry)
+        work.old.items work.new.items) }
 {
     match how {
         Stage::Begins => plan(work, &[Task::Loop(Stage::Begins, parts)]),
-        Stage::Tests(most) => step(work, most, parts),
-        Stage::Turns(most) => step(work, most, parts),
+        Stage::Tests(most) => plan_loop_step(work, most, parts),
+        Stage::Turns(most) => plan_loop_step(work, most, parts),
     }
 }
 
 /// The step of a loop, and then its test.
-#[tactic(auto, using(c_semantics::proofs::Runs::assoc))]
-fn step<'a>(work: &mut Vec<Work<'a>>, most: u64, parts: Loop<'a>) -> Result<(), OutOfMemory>
-    ensures { OnOk result (PlansFlow (λ definitions input calls. loop_again definitions input calls (stage.Tests most) parts.entry) work.old.items work.new.items) }
+#[tactic(auto, using(c_semantics::proofs::RunLemmas::assoc))]
+fn plan_loop_step<'a>(
+    work: &mut Vec<Work<'a>>,
+    most: u64,
+    parts: Loop<'a>,
+) -> Result<(), OutOfMemory>
+    ensures { OnOk result (PlansFlow
+        (λ definitions input calls. loop_again definitions input calls
+        (stage.Tests most) parts.entry) work.old.items work.new.items) }
 {
     match parts.step {
         None => plan(work, &[Task::Loop(Stage::Tests(most), parts)]),
@@ -123,24 +132,25 @@ fn step<'a>(work: &mut Vec<Work<'a>>, most: u64, parts: Loop<'a>) -> Result<(), 
 }
 
 /// A loop has turned, and its body has ended somehow.
-pub(crate) fn turned<'a>(
+pub(crate) fn end_turn<'a>(
     pending: &mut Pending<'a>,
     machine: &mut Machine,
     how: Stage,
     parts: Loop<'a>,
 ) -> Result<(), Halt>
-    ensures { (definitions : List Definition) (text : List Part) (input : List ℕ) → Turned definitions text input (work_after definitions text input (item.Edge (edge.Turned how parts.entry)) pending.old machine.old) pending.new machine.new result }
+    ensures { Passes (edge.Turned how parts.entry) pending.old machine.old pending.new machine.new
+        result }
 {
     match pending.flow {
-        Flow::Normal | Flow::Continued => {
+        Flow::Normal | Flow::AtContinue => {
             pending.flow = Flow::Normal;
-            again(&mut pending.work, how, parts)?;
+            plan_again(&mut pending.work, how, parts)?;
             Ok(())
         }
-        Flow::Broke => {
+        Flow::AtBreak => {
             pending.flow = Flow::Normal;
             Ok(())
         }
-        Flow::Gave(_) => Ok(()),
+        Flow::AtReturn(_) => Ok(()),
     }
 }

@@ -1,22 +1,22 @@
 //! What a program means.
 
 ghost use Rattle.std.specs.Prelude.{◌≡◌, ℕ, List, Option, IfOk};
-ghost use Rattle.c_tree.specs.Syntax.{Part};
-ghost use Rattle.c_tree.specs.View.{parts};
+ghost use Rattle.c_tree.specs.Item.{Item};
+ghost use Rattle.c_tree.specs.View.{items_of};
 ghost use Rattle.c_layout.specs.Laid.{plan};
-ghost use Rattle.c_layout.specs.Outcome.{plan_of};
+ghost use Rattle.c_layout.specs.LayoutAnswers.{plan_of};
 ghost use Rattle.c_tree.specs.Declarators.{count_of};
-ghost use Rattle.c_tree.specs.Words.{signed};
+ghost use Rattle.c_tree.specs.Arithmetic.{signed};
 ghost use Rattle.c_meaning.specs.Answer.{meaning_of, Ends};
 ghost use Rattle.c_resolve.specs.Entries.{numbered};
 ghost use Rattle.c_semantics.specs.Eval.{Calls, enter};
-ghost use Rattle.c_meaning.specs.Machine.{store_of};
+ghost use Rattle.c_meaning.specs.private.EvaluatorState.{store_of};
 ghost use Rattle.c_semantics.specs.Meaning.{definition, ended, main_name, meant, run_of, start};
 ghost use Rattle.c_semantics.specs.Names.{Definition};
 ghost use Rattle.c_resolve.specs.Nodes.{target_run};
-ghost use Rattle.c_meaning.specs.Pending.{given_by};
+ghost use Rattle.c_meaning.specs.private.Pending.{given_by};
 ghost use Rattle.c_semantics.specs.Run.{Ended};
-ghost use Rattle.c_meaning.specs.Turned.{all_after};
+ghost use Rattle.c_meaning.specs.private.Turned.{all_after};
 ghost use Rattle.c_resolve.specs.Routines.{definitions_of, AreRoutinesOf};
 
 use crate::halt::Halt;
@@ -35,8 +35,8 @@ use std::alloc::Global;
 
 /// A program before `main` starts.
 fn start(alloc: Global, tree: &Tree, layout: &Layout, steps: u64) -> Result<Machine, OutOfMemory>
-    requires { plan_of layout.now ≡ plan (parts tree.now) }
-    ensures store { IfOk result (λ machine. store_of machine ≡ start (parts tree.now)) }
+    requires { plan_of layout.now ≡ plan (items_of tree.now) }
+    ensures store { IfOk result (λ machine. store_of machine ≡ start (items_of tree.now)) }
     ensures left { IfOk result (λ machine. machine.left ≡ steps) }
 {
     Ok(Machine {
@@ -50,7 +50,8 @@ fn start(alloc: Global, tree: &Tree, layout: &Layout, steps: u64) -> Result<Mach
 
 /// What a call of `main` names.
 fn target_of(main: Option<u32>) -> Target
-    ensures { (definitions : List Definition) (input : List ℕ) (calls : Calls) → target_run definitions input calls result ≡ enter calls (numbered definitions main) }
+    ensures { (definitions : List Definition) (input : List ℕ) (calls : Calls)
+        → target_run definitions input calls result ≡ enter calls (numbered definitions main) }
 {
     match main {
         Some(number) => Target::Function(number),
@@ -60,7 +61,9 @@ fn target_of(main: Option<u32>) -> Target
 
 /// What is to be done at first: `main` is called.
 fn call_main<'a>(alloc: Global, main: Option<u32>, steps: u64) -> Result<Pending<'a>, OutOfMemory>
-    ensures { IfOk result (λ pending. (text : List Part) → (input : List ℕ) → (machine : Machine) → store_of machine ≡ start text → machine.left ≡ steps → numbered (definitions_of text) main ≡ definition text main_name →
+    ensures { IfOk result (λ pending. (text : List Item) → (input : List ℕ) → (machine : Machine)
+        → store_of machine ≡ start text → machine.left ≡ steps
+        → numbered (definitions_of text) main ≡ definition text main_name →
         all_after (definitions_of text) text input pending machine ≡ run_of text input steps) }
 {
     let target = target_of(main);
@@ -79,14 +82,15 @@ fn exit_of(flow: Flow) -> i32
     ensures { result ≡ signed (count_of (given_by flow)) }
 {
     match flow {
-        Flow::Gave(Some(value)) => value.cast_signed(),
+        Flow::AtReturn(Some(value)) => value.cast_signed(),
         _ => 0,
     }
 }
 
 /// What a program means that has come to an end.
 fn meant_by(done: Result<(), Halt>, flow: Flow, machine: Machine) -> Result<Meant, OutOfMemory>
-    ensures { IfOk result (λ answer. (end : Ended (Option ℕ)) → Ends end flow machine done → meaning_of answer ≡ ended end) }
+    ensures { IfOk result (λ answer. (end : Ended (Option ℕ)) → Ends end flow machine done
+        → meaning_of answer ≡ ended end) }
 {
     let output = machine.output;
     match done {
@@ -106,8 +110,9 @@ pub fn evaluate(
     input: &[u8],
     steps: u64,
 ) -> Result<Meant, OutOfMemory>
-    requires { plan_of layout.now ≡ plan (parts checked.now.tree) }
-    ensures { IfOk result (λ answer. meaning_of answer ≡ meant (parts checked.now.tree) input.now steps) }
+    requires { plan_of layout.now ≡ plan (items_of checked.now.tree) }
+    ensures { IfOk result (λ answer. meaning_of answer
+        ≡ meant (items_of checked.now.tree) input.now steps) }
 {
     let tree = checked.tree();
     let routines = resolve_text(alloc, tree, layout)?;

@@ -40,39 +40,39 @@ pub(crate) enum Task<'a> {
     /// The number 0, which takes no step.
     Zero,
     /// The address of a variable.
-    Variable(Home),
+    Name(Home),
     Values(&'a [Node]),
     /// What an object at an address holds.
     Load(Held, Place),
     /// The step of a node that leaves its operand.
     Count,
-    Prefix(Unary, Operand, Place),
+    Unary(Unary, Operand, Place),
     /// `++` or `--`, with the place of its operand and its own.
     Step(Step, Operand, Held, Place, Place),
-    Convert(Held),
-    Infix(Binary, Operand, Operand, Place),
+    Cast(Held),
+    Binary(Binary, Operand, Operand, Place),
     /// The right operand of `&&` or `||`, where the left one doesn't decide.
-    Decide(Binary, &'a Node),
+    Logic(Binary, &'a Node),
     Truth,
-    Choose(&'a Node, &'a Node),
+    Conditional(&'a Node, &'a Node),
     /// An assignment, with the place of its left side and its own.
     Assign(Option<Binary>, Operand, Operand, Held, Place, Place),
     /// A call with so many arguments.
     Call(Target, usize),
     Ignore,
-    Pass(&'a [Passed]),
-    PassOne(&'a Passed),
+    Vars(&'a [Passed]),
+    Var(&'a Passed),
     /// A local takes its first value.
-    Set(Local, Held, Place),
-    Do(&'a Action),
+    Init(Local, Held, Place),
+    Execute(&'a Action),
     All(&'a [Action]),
     /// A block, with its own locals.
     Block(&'a [Local], &'a [Action]),
     /// A `for` that was entered, with the locals that it declares itself.
     For(&'a [Local], &'a Beginning, Loop<'a>),
-    Branch(&'a Action, Option<&'a Action>),
+    If(&'a Action, Option<&'a Action>),
     Loop(Stage, Loop<'a>),
-    Give(Held),
+    Return(Held),
     /// What was done ends so.
     End(Flow),
 }

@@ -8,7 +8,8 @@ use c_tree::OutOfMemory;
 
 /// Plans tasks before all other work, in their order.
 pub(crate) fn plan<'a>(work: &mut Vec<Work<'a>>, tasks: &[Task<'a>]) -> Result<(), OutOfMemory>
-    ensures { OnOk result (reverse work.new.items ≡ map item.Task tasks.now ++ reverse work.old.items) }
+    ensures { OnOk result (reverse work.new.items
+        ≡ map item.Task tasks.now ++ reverse work.old.items) }
 {
     let mut left = tasks.len();
     while 0 < left {

@@ -1,19 +1,20 @@
 //! The memory that a program starts with.
 
 ghost use Rattle.std.specs.Prelude.{◌≡◌, ◌++◌, ◌∷◌, List, map, IfOk, OnOk};
-ghost use Rattle.c_tree.specs.Syntax.{Declarator, Part};
-ghost use Rattle.c_tree.specs.View.{declarator, expression, expressions, part, parts, shape};
+ghost use Rattle.c_tree.specs.Var.{Var as PureVar};
+ghost use Rattle.c_tree.specs.Item.{Item as PureItem};
+ghost use Rattle.c_tree.specs.View.{var_of, expr_of, exprs_of, item_of, items_of, ty_of};
 ghost use Rattle.c_layout.specs.Laid.{plan};
-ghost use Rattle.c_layout.specs.Outcome.{plan_of};
+ghost use Rattle.c_layout.specs.LayoutAnswers.{plan_of};
 ghost use Rattle.c_semantics.specs.Meaning.{item_bytes, items_bytes, given_bytes, filled, first_bytes, global_declarators, start};
 ghost use Rattle.c_semantics.specs.Memory.{digits};
-ghost use Rattle.c_meaning.specs.Started.{started};
+ghost use Rattle.c_meaning.specs.private.Started.{started};
 
 use c_layout::Layout;
 use c_resolve::{global_addresses, size};
 use c_semantics::{Memory, Object};
 use c_tree::{CType, Expr, Init, Item, OutOfMemory, Tree, Var};
-use c_types::{convert, pointed, sized, value_of};
+use c_types::{array_of, convert, pointer_to, value_of};
 use std::alloc::Global;
 
 /// Adds the lowest bytes of a number, the lowest first.
@@ -30,7 +31,8 @@ fn push_digits(value: u32, count: u64, out: &mut Vec<u8>) -> Result<(), OutOfMem
 
 /// Adds the bytes of a constant of a type. One without a value counts as 0.
 fn push_item(ty: &CType, constant: &Expr, out: &mut Vec<u8>) -> Result<(), OutOfMemory>
-    ensures { OnOk result (out.new.items ≡ out.old.items ++ item_bytes (shape ty.now) (expression constant.now)) }
+    ensures { OnOk result (out.new.items
+        ≡ out.old.items ++ item_bytes (ty_of ty.now) (expr_of constant.now)) }
 {
     let value = value_of(constant).unwrap_or(0);
     push_digits(convert(value, ty), size(ty)?, out)
@@ -38,7 +40,8 @@ fn push_item(ty: &CType, constant: &Expr, out: &mut Vec<u8>) -> Result<(), OutOf
 
 /// Adds the bytes of constants of a type.
 fn push_items(ty: &CType, constants: &[Expr], out: &mut Vec<u8>) -> Result<(), OutOfMemory>
-    ensures { OnOk result (out.new.items ≡ out.old.items ++ items_bytes (shape ty.now) (expressions constants.now)) }
+    ensures { OnOk result (out.new.items
+        ≡ out.old.items ++ items_bytes (ty_of ty.now) (exprs_of constants.now)) }
 {
     for constant in constants {
         push_item(ty, constant, out)?;
@@ -48,7 +51,8 @@ fn push_items(ty: &CType, constants: &[Expr], out: &mut Vec<u8>) -> Result<(), O
 
 /// Adds the bytes that an initialiser gives.
 fn push_given(ty: &CType, v: &Var, out: &mut Vec<u8>) -> Result<(), OutOfMemory>
-    ensures { OnOk result (out.new.items ≡ out.old.items ++ given_bytes (shape ty.now) (declarator v.now).init) }
+    ensures { OnOk result (out.new.items
+        ≡ out.old.items ++ given_bytes (ty_of ty.now) (var_of v.now).init) }
 {
     match &v.init {
         None => Ok(()),
@@ -67,12 +71,12 @@ fn fill(bytes: &mut Vec<u8>, count: u64) -> Result<(), OutOfMemory>
 
 /// The bytes that a global holds first.
 fn first_bytes(alloc: Global, v: &Var) -> Result<Vec<u8>, OutOfMemory>
-    ensures { IfOk result (λ bytes. bytes.items ≡ first_bytes (declarator v.now)) }
+    ensures { IfOk result (λ bytes. bytes.items ≡ first_bytes (var_of v.now)) }
 {
     let mut bytes = Vec::new(alloc);
-    let element = pointed(alloc, &v.base, v.stars)?;
+    let element = pointer_to(alloc, &v.base, v.stars)?;
     push_given(&element, v, &mut bytes)?;
-    let ty = sized(alloc, element, &v.sizes)?;
+    let ty = array_of(alloc, element, &v.sizes)?;
     fill(&mut bytes, size(&ty)?)?;
     Ok(bytes)
 }
@@ -84,7 +88,8 @@ fn start_global<'a>(
     addresses: &'a [u32],
     memory: &mut Memory,
 ) -> Result<&'a [u32], OutOfMemory>
-    ensures { IfOk result (λ rest. (ds : List Declarator) → started rest.now ds memory.new ≡ started addresses.now (declarator v.now ∷ ds) memory.old) }
+    ensures { IfOk result (λ rest. (ds : List PureVar)
+        → started rest.now ds memory.new ≡ started addresses.now (var_of v.now ∷ ds) memory.old) }
 {
     let Some((address, rest)) = addresses.split_first() else {
         return Ok(addresses);
@@ -106,7 +111,9 @@ fn start_globals<'a>(
     addresses: &'a [u32],
     memory: &mut Memory,
 ) -> Result<&'a [u32], OutOfMemory>
-    ensures { IfOk result (λ rest. (ds : List Declarator) → started rest.now ds memory.new ≡ started addresses.now (map declarator vars.now ++ ds) memory.old) }
+    ensures { IfOk result (λ rest. (ds : List PureVar)
+        → started rest.now ds memory.new
+        ≡ started addresses.now (map var_of vars.now ++ ds) memory.old) }
 {
     let mut rest = addresses;
     for v in vars {
@@ -122,7 +129,9 @@ fn start_item<'a>(
     addresses: &'a [u32],
     memory: &mut Memory,
 ) -> Result<&'a [u32], OutOfMemory>
-    ensures { IfOk result (λ rest. (ps : List Part) → started rest.now (global_declarators ps) memory.new ≡ started addresses.now (global_declarators (part item.now ∷ ps)) memory.old) }
+    ensures { IfOk result (λ rest. (ps : List PureItem)
+        → started rest.now (global_declarators ps) memory.new
+        ≡ started addresses.now (global_declarators (item_of item.now ∷ ps)) memory.old) }
 {
     match item {
         Item::Vars(_, vars) => start_globals(alloc, vars, addresses, memory),
@@ -136,8 +145,12 @@ pub(crate) fn start_memory(
     tree: &Tree,
     layout: &Layout,
 ) -> Result<Memory, OutOfMemory>
-    requires { plan_of layout.now ≡ plan (parts tree.now) }
-    ensures { IfOk result (λ memory. memory ≡ record { bytes = (start (parts tree.now)).bytes; live = (start (parts tree.now)).live }) }
+    requires { plan_of layout.now ≡ plan (items_of tree.now) }
+    ensures { IfOk result (λ memory. memory
+        ≡ record {
+          bytes = (start (items_of tree.now)).bytes;
+          live = (start (items_of tree.now)).live;
+        }) }
 {
     let addresses = global_addresses(alloc, layout)?;
     let mut memory = Memory::new(alloc)?;

@@ -1,12 +1,10 @@
 //! Tasks on values that are at hand.
 
-ghost use Rattle.std.specs.Prelude.{◌≡◌, ℕ, List, reverse};
-ghost use Rattle.c_tree.specs.Syntax.{Part};
+ghost use Rattle.std.specs.Prelude.{◌≡◌, reverse};
 ghost use Rattle.c_semantics.specs.Eval.{first_of};
-ghost use Rattle.c_semantics.specs.Names.{Definition};
-ghost use Rattle.c_resolve.specs.Nodes.{converted_by};
-ghost use Rattle.c_meaning.specs.Pending.{below};
-ghost use Rattle.c_meaning.specs.Turned.{all_after, task_after, Turned};
+ghost use Rattle.c_resolve.specs.Nodes.{cast_value};
+ghost use Rattle.c_meaning.specs.private.Pending.{below};
+ghost use Rattle.c_meaning.specs.private.Turned.{Does, DoesAtOnce};
 ghost use Rattle.c_semantics.specs.declared.flow.Flow.TheVariants.{Normal};
 ghost use Rattle.c_meaning.specs.declared.pending.Task.TheVariants as task;
 
@@ -25,8 +23,8 @@ pub(crate) fn pop(values: &mut Vec<u32>) -> u32
 }
 
 /// A value that is converted.
-pub(crate) fn converted(held: Held, value: u32) -> u32
-    ensures { result ≡ converted_by held value }
+pub(crate) fn cast_value(held: Held, value: u32) -> u32
+    ensures { result ≡ cast_value held value }
 {
     match held {
         Held::Byte => value % 256,
@@ -36,14 +34,14 @@ pub(crate) fn converted(held: Held, value: u32) -> u32
 }
 
 /// What an object holds at the address that is at hand.
-pub(crate) fn load(
+pub(crate) fn run_load(
     pending: &mut Pending<'_>,
     machine: &mut Machine,
     held: Held,
     at: Place,
 ) -> Result<(), Halt>
     requires { pending.old.flow ≡ Normal }
-    ensures { (definitions : List Definition) (text : List Part) (input : List ℕ) → Turned definitions text input (task_after definitions text input (task.Load held at) pending.old machine.old) pending.new machine.new result }
+    ensures { Does (task.Load held at) pending.old machine.old pending.new machine.new result }
 {
     let address = pop(&mut pending.values);
     let value = machine.load(held, address, at)?;
@@ -51,31 +49,31 @@ pub(crate) fn load(
     Ok(())
 }
 
-pub(crate) fn count(pending: &mut Pending<'_>, machine: &mut Machine) -> Result<(), Halt>
+pub(crate) fn run_count(pending: &mut Pending<'_>, machine: &mut Machine) -> Result<(), Halt>
     requires { pending.old.flow ≡ Normal }
-    ensures { (definitions : List Definition) (text : List Part) (input : List ℕ) → Turned definitions text input (task_after definitions text input task.Count pending.old machine.old) pending.new machine.new result }
+    ensures { Does task.Count pending.old machine.old pending.new machine.new result }
 {
     machine.count()
 }
 
-pub(crate) fn convert(
+pub(crate) fn run_cast(
     pending: &mut Pending<'_>,
     machine: &mut Machine,
     held: Held,
 ) -> Result<(), Halt>
     requires { pending.old.flow ≡ Normal }
-    ensures { (definitions : List Definition) (text : List Part) (input : List ℕ) → Turned definitions text input (task_after definitions text input (task.Convert held) pending.old machine.old) pending.new machine.new result }
+    ensures { Does (task.Cast held) pending.old machine.old pending.new machine.new result }
 {
     let value = pop(&mut pending.values);
     machine.count()?;
-    pending.values.push(converted(held, value))?;
+    pending.values.push(cast_value(held, value))?;
     Ok(())
 }
 
 /// The right operand of `&&` or `||` as a truth.
-pub(crate) fn truth(pending: &mut Pending<'_>, machine: &mut Machine) -> Result<(), Halt>
+pub(crate) fn run_truth(pending: &mut Pending<'_>, machine: &mut Machine) -> Result<(), Halt>
     requires { pending.old.flow ≡ Normal }
-    ensures { (definitions : List Definition) (text : List Part) (input : List ℕ) → Turned definitions text input (task_after definitions text input task.Truth pending.old machine.old) pending.new machine.new result }
+    ensures { Does task.Truth pending.old machine.old pending.new machine.new result }
 {
     let value = pop(&mut pending.values);
     machine.count()?;
@@ -83,7 +81,7 @@ pub(crate) fn truth(pending: &mut Pending<'_>, machine: &mut Machine) -> Result<
     Ok(())
 }
 
-pub(crate) fn infix(
+pub(crate) fn run_binary(
     pending: &mut Pending<'_>,
     machine: &mut Machine,
     op: Binary,
@@ -92,25 +90,25 @@ pub(crate) fn infix(
     at: Place,
 ) -> Result<(), Halt>
     requires { pending.old.flow ≡ Normal }
-    ensures { (definitions : List Definition) (text : List Part) (input : List ℕ) → Turned definitions text input (task_after definitions text input (task.Infix op c d at) pending.old machine.old) pending.new machine.new result }
+    ensures { Does (task.Binary op c d at) pending.old machine.old pending.new machine.new result }
 {
     let right = pop(&mut pending.values);
     let left = pop(&mut pending.values);
     machine.count()?;
-    let value = machine.infix_act(op, c, d, left, right, at)?;
+    let value = machine.binary_act(op, c, d, left, right, at)?;
     pending.values.push(value)?;
     Ok(())
 }
 
-pub(crate) fn ignore(pending: &mut Pending<'_>, machine: &mut Machine)
+pub(crate) fn run_ignore(pending: &mut Pending<'_>, machine: &mut Machine)
     requires { pending.old.flow ≡ Normal }
-    ensures { (definitions : List Definition) (text : List Part) (input : List ℕ) → task_after definitions text input task.Ignore pending.old machine.old ≡ all_after definitions text input pending.new machine.new }
+    ensures { DoesAtOnce task.Ignore pending.old machine.old pending.new machine.new }
 {
     pop(&mut pending.values);
 }
 
 /// A local takes its first value.
-pub(crate) fn set(
+pub(crate) fn run_init(
     pending: &mut Pending<'_>,
     machine: &mut Machine,
     local: Local,
@@ -118,7 +116,8 @@ pub(crate) fn set(
     at: Place,
 ) -> Result<(), Halt>
     requires { pending.old.flow ≡ Normal }
-    ensures { (definitions : List Definition) (text : List Part) (input : List ℕ) → Turned definitions text input (task_after definitions text input (task.Set local held at) pending.old machine.old) pending.new machine.new result }
+    ensures { Does (task.Init local held at) pending.old machine.old pending.new machine.new
+        result }
 {
     let value = pop(&mut pending.values);
     let address = machine.in_frame(local.offset);
@@ -126,15 +125,15 @@ pub(crate) fn set(
     Ok(())
 }
 
-pub(crate) fn give(pending: &mut Pending<'_>, machine: &mut Machine, held: Held)
+pub(crate) fn run_return(pending: &mut Pending<'_>, machine: &mut Machine, held: Held)
     requires { pending.old.flow ≡ Normal }
-    ensures { (definitions : List Definition) (text : List Part) (input : List ℕ) → task_after definitions text input (task.Give held) pending.old machine.old ≡ all_after definitions text input pending.new machine.new }
+    ensures { DoesAtOnce (task.Return held) pending.old machine.old pending.new machine.new }
 {
     let value = pop(&mut pending.values);
-    pending.flow = Flow::Gave(Some(converted(held, value)));
+    pending.flow = Flow::AtReturn(Some(cast_value(held, value)));
 }
 
-pub(crate) fn prefix(
+pub(crate) fn run_unary(
     pending: &mut Pending<'_>,
     machine: &mut Machine,
     op: Unary,
@@ -142,16 +141,16 @@ pub(crate) fn prefix(
     at: Place,
 ) -> Result<(), Halt>
     requires { pending.old.flow ≡ Normal }
-    ensures { (definitions : List Definition) (text : List Part) (input : List ℕ) → Turned definitions text input (task_after definitions text input (task.Prefix op c at) pending.old machine.old) pending.new machine.new result }
+    ensures { Does (task.Unary op c at) pending.old machine.old pending.new machine.new result }
 {
     let value = pop(&mut pending.values);
     machine.count()?;
-    let value = machine.prefix_act(op, c, value, at)?;
+    let value = machine.unary_act(op, c, value, at)?;
     pending.values.push(value)?;
     Ok(())
 }
 
-pub(crate) fn step(
+pub(crate) fn run_step(
     pending: &mut Pending<'_>,
     machine: &mut Machine,
     how: Step,
@@ -161,16 +160,17 @@ pub(crate) fn step(
     at: Place,
 ) -> Result<(), Halt>
     requires { pending.old.flow ≡ Normal }
-    ensures { (definitions : List Definition) (text : List Part) (input : List ℕ) → Turned definitions text input (task_after definitions text input (task.Step how c held own at) pending.old machine.old) pending.new machine.new result }
+    ensures { Does (task.Step how c held own at) pending.old machine.old pending.new machine.new
+        result }
 {
     let address = pop(&mut pending.values);
     machine.count()?;
-    let value = machine.stepped(how, c, held, own, at, address)?;
+    let value = machine.step(how, c, held, own, at, address)?;
     pending.values.push(value)?;
     Ok(())
 }
 
-pub(crate) fn assign(
+pub(crate) fn run_assign(
     pending: &mut Pending<'_>,
     machine: &mut Machine,
     how: Option<Binary>,
@@ -181,45 +181,46 @@ pub(crate) fn assign(
     at: Place,
 ) -> Result<(), Halt>
     requires { pending.old.flow ≡ Normal }
-    ensures { (definitions : List Definition) (text : List Part) (input : List ℕ) → Turned definitions text input (task_after definitions text input (task.Assign how c d held own at) pending.old machine.old) pending.new machine.new result }
+    ensures { Does (task.Assign how c d held own at) pending.old machine.old pending.new
+        machine.new result }
 {
     let value = pop(&mut pending.values);
     let address = pop(&mut pending.values);
     machine.count()?;
-    let value = machine.assigned(how, c, d, held, own, at, address, value)?;
+    let value = machine.assign(how, c, d, held, own, at, address, value)?;
     pending.values.push(value)?;
     Ok(())
 }
 
-pub(crate) fn constant(
+pub(crate) fn run_constant(
     pending: &mut Pending<'_>,
     machine: &mut Machine,
     value: u32,
 ) -> Result<(), Halt>
     requires { pending.old.flow ≡ Normal }
-    ensures { (definitions : List Definition) (text : List Part) (input : List ℕ) → Turned definitions text input (task_after definitions text input (task.Constant value) pending.old machine.old) pending.new machine.new result }
+    ensures { Does (task.Constant value) pending.old machine.old pending.new machine.new result }
 {
     machine.count()?;
     pending.values.push(value)?;
     Ok(())
 }
 
-pub(crate) fn zero(pending: &mut Pending<'_>, machine: &mut Machine) -> Result<(), Halt>
+pub(crate) fn run_zero(pending: &mut Pending<'_>, machine: &mut Machine) -> Result<(), Halt>
     requires { pending.old.flow ≡ Normal }
-    ensures { (definitions : List Definition) (text : List Part) (input : List ℕ) → Turned definitions text input (task_after definitions text input (task.Zero) pending.old machine.old) pending.new machine.new result }
+    ensures { Does (task.Zero) pending.old machine.old pending.new machine.new result }
 {
     pending.values.push(0)?;
     Ok(())
 }
 
 /// The address of a variable.
-pub(crate) fn variable(
+pub(crate) fn run_name(
     pending: &mut Pending<'_>,
     machine: &mut Machine,
     home: Home,
 ) -> Result<(), Halt>
     requires { pending.old.flow ≡ Normal }
-    ensures { (definitions : List Definition) (text : List Part) (input : List ℕ) → Turned definitions text input (task_after definitions text input (task.Variable home) pending.old machine.old) pending.new machine.new result }
+    ensures { Does (task.Name home) pending.old machine.old pending.new machine.new result }
 {
     machine.count()?;
     let address = machine.address(home)?;

@@ -1,10 +1,9 @@
 //! Work that is done piece by piece.
 
-ghost use Rattle.std.specs.Prelude.{◌≡◌, ◌<◌, ◌⊎◌, [], ℕ, List, OnOk};
-ghost use Rattle.c_semantics.specs.Names.{Definition};
-ghost use Rattle.c_tree.specs.Syntax.{Part};
+ghost use Rattle.std.specs.Prelude.{◌≡◌, ◌<◌, ◌⊎◌, [], List, OnOk};
+ghost use Rattle.c_tree.specs.Item.{Item};
 ghost use Rattle.c_resolve.specs.Routines.{definitions_of, AreRoutinesOf};
-ghost use Rattle.c_meaning.specs.Turned.{all_after, task_after, work_after, Turned};
+ghost use Rattle.c_meaning.specs.private.Turned.{all_after, task_after, work_after, Turned, Does, Passes};
 ghost use Rattle.c_semantics.specs.declared.flow.Flow.TheVariants.{Normal};
 ghost use Rattle.c_meaning.specs.declared.pending.Edge.TheVariants as edge;
 ghost use Rattle.c_meaning.specs.declared.pending.Task.TheVariants as task;
@@ -21,55 +20,58 @@ use c_semantics::Flow;
 const MOST_TURNS: u64 = u64::MAX;
 
 /// An expression is evaluated.
-fn evaluate<'a>(
+fn run_eval<'a>(
     pending: &mut Pending<'a>,
     machine: &mut Machine,
     wanted: Wanted,
     node: &'a Node,
 ) -> Result<(), Halt>
     requires { pending.old.flow ≡ Normal }
-    ensures { (definitions : List Definition) (text : List Part) (input : List ℕ) → Turned definitions text input (task_after definitions text input (task.Eval wanted node.entry) pending.old machine.old) pending.new machine.new result }
+    ensures { Does (task.Eval wanted node.entry) pending.old machine.old pending.new machine.new
+        result }
 {
     match wanted {
-        Wanted::Value => evaluating::value(&mut pending.work, node)?,
-        Wanted::Address => evaluating::address(&mut pending.work, node)?,
-        Wanted::Nothing => evaluating::unused(&mut pending.work, node)?,
+        Wanted::Value => evaluating::plan_value(&mut pending.work, node)?,
+        Wanted::Address => evaluating::plan_address(&mut pending.work, node)?,
+        Wanted::Nothing => evaluating::plan_unused(&mut pending.work, node)?,
     }
     Ok(())
 }
 
 /// A statement is executed.
-fn execute<'a>(
+fn run_stmt<'a>(
     pending: &mut Pending<'a>,
     machine: &mut Machine,
     action: &'a Action,
 ) -> Result<(), Halt>
     requires { pending.old.flow ≡ Normal }
-    ensures { (definitions : List Definition) (text : List Part) (input : List ℕ) → Turned definitions text input (task_after definitions text input (task.Do action.entry) pending.old machine.old) pending.new machine.new result }
+    ensures { Does (task.Execute action.entry) pending.old machine.old pending.new machine.new
+        result }
 {
-    executing::statement(&mut pending.work, action)?;
+    executing::plan_stmt(&mut pending.work, action)?;
     Ok(())
 }
 
 /// A loop goes on.
-fn repeat<'a>(
+fn run_loop<'a>(
     pending: &mut Pending<'a>,
     machine: &mut Machine,
     stage: Stage,
     parts: Loop<'a>,
 ) -> Result<(), Halt>
     requires { pending.old.flow ≡ Normal }
-    ensures { (definitions : List Definition) (text : List Part) (input : List ℕ) → Turned definitions text input (task_after definitions text input (task.Loop stage parts.entry) pending.old machine.old) pending.new machine.new result }
+    ensures { Does (task.Loop stage parts.entry) pending.old machine.old pending.new machine.new
+        result }
 {
     match stage {
-        Stage::Begins => looping::begin(pending, machine, parts),
-        Stage::Tests(most) => looping::test(pending, machine, most, parts),
-        Stage::Turns(most) => looping::turn(pending, machine, most, parts),
+        Stage::Begins => looping::begin_loop(pending, machine, parts),
+        Stage::Tests(most) => looping::test_loop(pending, machine, most, parts),
+        Stage::Turns(most) => looping::turn_loop(pending, machine, most, parts),
     }
 }
 
 /// A task is done.
-fn work_on<'a>(
+fn run_task<'a>(
     pending: &mut Pending<'a>,
     machine: &mut Machine,
     task: Task<'a>,
@@ -77,41 +79,48 @@ fn work_on<'a>(
     input: &[u8],
 ) -> Result<(), Halt>
     requires { pending.old.flow ≡ Normal }
-    ensures { (text : List Part) → AreRoutinesOf text routines.entry.now → Turned (definitions_of text) text input.now (task_after (definitions_of text) text input.now task.entry pending.old machine.old) pending.new machine.new result }
+    ensures { (text : List Item) → AreRoutinesOf text routines.entry.now
+        → Turned (definitions_of text) text input.now
+        (task_after (definitions_of text) text input.now task.entry pending.old machine.old)
+        pending.new machine.new result }
 {
     match task {
-        Task::Eval(wanted, node) => evaluate(pending, machine, wanted, node),
-        Task::Constant(value) => tasks::constant(pending, machine, value),
-        Task::Zero => tasks::zero(pending, machine),
-        Task::Variable(home) => tasks::variable(pending, machine, home),
-        Task::Values(nodes) => choosing::values(pending, machine, nodes),
-        Task::Load(held, at) => tasks::load(pending, machine, held, at),
-        Task::Count => tasks::count(pending, machine),
-        Task::Prefix(op, c, at) => tasks::prefix(pending, machine, op, c, at),
-        Task::Step(how, c, held, own, at) => tasks::step(pending, machine, how, c, held, own, at),
-        Task::Convert(held) => tasks::convert(pending, machine, held),
-        Task::Infix(op, c, d, at) => tasks::infix(pending, machine, op, c, d, at),
-        Task::Decide(op, right) => choosing::decide(pending, machine, op, right),
-        Task::Truth => tasks::truth(pending, machine),
-        Task::Choose(first, other) => choosing::choose(pending, machine, first, other),
-        Task::Assign(how, c, d, held, own, at) => tasks::assign(
+        Task::Eval(wanted, node) => run_eval(pending, machine, wanted, node),
+        Task::Constant(value) => tasks::run_constant(pending, machine, value),
+        Task::Zero => tasks::run_zero(pending, machine),
+        Task::Name(home) => tasks::run_name(pending, machine, home),
+        Task::Values(nodes) => choosing::run_values(pending, machine, nodes),
+        Task::Load(held, at) => tasks::run_load(pending, machine, held, at),
+        Task::Count => tasks::run_count(pending, machine),
+        Task::Unary(op, c, at) => tasks::run_unary(pending, machine, op, c, at),
+        Task::Step(how, c, held, own, at) => tasks::run_step(
+            pending, machine, how, c, held, own, at,
+        ),
+        Task::Cast(held) => tasks::run_cast(pending, machine, held),
+        Task::Binary(op, c, d, at) => tasks::run_binary(pending, machine, op, c, d, at),
+        Task::Logic(op, right) => choosing::run_logic(pending, machine, op, right),
+        Task::Truth => tasks::run_truth(pending, machine),
+        Task::Conditional(first, other) => choosing::run_conditional(
+            pending, machine, first, other,
+        ),
+        Task::Assign(how, c, d, held, own, at) => tasks::run_assign(
             pending, machine, how, c, d, held, own, at,
         ),
-        Task::Call(target, count) => calling::call(
+        Task::Call(target, count) => calling::run_call(
             pending, machine, target, count, routines, input,
         ),
-        Task::Ignore => Ok(tasks::ignore(pending, machine)),
-        Task::Pass(passed) => choosing::pass(pending, machine, passed),
-        Task::PassOne(passed) => choosing::pass_one(pending, machine, passed),
-        Task::Set(local, held, at) => tasks::set(pending, machine, local, held, at),
-        Task::Do(action) => execute(pending, machine, action),
-        Task::All(actions) => choosing::all(pending, machine, actions),
-        Task::Block(locals, body) => blocks::block(pending, machine, locals, body),
-        Task::For(locals, first, parts) => blocks::for_loop(pending, machine, locals, first, parts),
-        Task::Branch(first, other) => choosing::branch(pending, machine, first, other),
-        Task::Loop(stage, parts) => repeat(pending, machine, stage, parts),
-        Task::Give(held) => Ok(tasks::give(pending, machine, held)),
-        Task::End(flow) => Ok(choosing::end(pending, machine, flow)),
+        Task::Ignore => Ok(tasks::run_ignore(pending, machine)),
+        Task::Vars(passed) => choosing::run_vars(pending, machine, passed),
+        Task::Var(passed) => choosing::run_var(pending, machine, passed),
+        Task::Init(local, held, at) => tasks::run_init(pending, machine, local, held, at),
+        Task::Execute(action) => run_stmt(pending, machine, action),
+        Task::All(actions) => choosing::run_all(pending, machine, actions),
+        Task::Block(locals, body) => blocks::run_block(pending, machine, locals, body),
+        Task::For(locals, first, parts) => blocks::run_for(pending, machine, locals, first, parts),
+        Task::If(first, other) => choosing::run_if(pending, machine, first, other),
+        Task::Loop(stage, parts) => run_loop(pending, machine, stage, parts),
+        Task::Return(held) => Ok(tasks::run_return(pending, machine, held)),
+        Task::End(flow) => Ok(choosing::run_end(pending, machine, flow)),
     }
 }
 
@@ -121,13 +130,13 @@ fn pass_edge<'a>(
     machine: &mut Machine,
     edge: Edge<'a>,
 ) -> Result<(), Halt>
-    ensures { (definitions : List Definition) (text : List Part) (input : List ℕ) → Turned definitions text input (work_after definitions text input (item.Edge edge.entry) pending.old machine.old) pending.new machine.new result }
+    ensures { Passes edge.entry pending.old machine.old pending.new machine.new result }
 {
     match edge {
         Edge::Use(at) => calling::take_value(pending, machine, at),
         Edge::Forget => Ok(calling::forget(pending, machine)),
-        Edge::Turned(stage, parts) => looping::turned(pending, machine, stage, parts),
-        Edge::Close(live) => Ok(blocks::close(pending, machine, live)),
+        Edge::Turned(stage, parts) => looping::end_turn(pending, machine, stage, parts),
+        Edge::Close(live) => Ok(blocks::end_block(pending, machine, live)),
         Edge::Leave(sp, is_main) => calling::leave(pending, machine, sp, is_main),
     }
 }
@@ -140,14 +149,17 @@ fn turn<'a>(
     routines: &'a [Routine],
     input: &[u8],
 ) -> Result<(), Halt>
-    ensures { (text : List Part) → AreRoutinesOf text routines.entry.now → Turned (definitions_of text) text input.now (work_after (definitions_of text) text input.now work.entry pending.old machine.old) pending.new machine.new result }
+    ensures { (text : List Item) → AreRoutinesOf text routines.entry.now
+        → Turned (definitions_of text) text input.now
+        (work_after (definitions_of text) text input.now work.entry pending.old machine.old)
+        pending.new machine.new result }
 {
     match work {
         Work::Task(task) => match pending.flow {
-            Flow::Normal => work_on(pending, machine, task, routines, input),
-            Flow::Broke => Ok(()),
-            Flow::Continued => Ok(()),
-            Flow::Gave(_) => Ok(()),
+            Flow::Normal => run_task(pending, machine, task, routines, input),
+            Flow::AtBreak => Ok(()),
+            Flow::AtContinue => Ok(()),
+            Flow::AtReturn(_) => Ok(()),
         },
         Work::Edge(edge) => pass_edge(pending, machine, edge),
     }
@@ -160,8 +172,12 @@ fn until_a_step<'a>(
     routines: &'a [Routine],
     input: &[u8],
 ) -> Result<(), Halt>
-    ensures turned { (text : List Part) → AreRoutinesOf text routines.entry.now → Turned (definitions_of text) text input.now (all_after (definitions_of text) text input.now pending.old machine.old) pending.new machine.new result }
-    ensures on { OnOk result ((pending.new.work.items ≡ []) ⊎ (machine.new.left < machine.old.left)) }
+    ensures turned { (text : List Item) → AreRoutinesOf text routines.entry.now
+        → Turned (definitions_of text) text input.now
+        (all_after (definitions_of text) text input.now pending.old machine.old) pending.new
+        machine.new result }
+    ensures on { OnOk result
+        ((pending.new.work.items ≡ []) ⊎ (machine.new.left < machine.old.left)) }
 {
     let before = machine.left;
     for _ in 0..MOST_TURNS {
@@ -183,7 +199,10 @@ pub(crate) fn until_the_end<'a>(
     routines: &'a [Routine],
     input: &[u8],
 ) -> Result<(), Halt>
-    ensures turned { (text : List Part) → AreRoutinesOf text routines.entry.now → Turned (definitions_of text) text input.now (all_after (definitions_of text) text input.now pending.old machine.old) pending.new machine.new result }
+    ensures turned { (text : List Item) → AreRoutinesOf text routines.entry.now
+        → Turned (definitions_of text) text input.now
+        (all_after (definitions_of text) text input.now pending.old machine.old) pending.new
+        machine.new result }
     ensures done { OnOk result (pending.new.work.items ≡ []) }
 {
     while !pending.work.is_empty() {

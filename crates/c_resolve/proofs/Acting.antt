@@ -11,7 +11,8 @@ abbrev pub in_order_then : List (Run Flow) → Run Flow → Run Flow
 in_order_then [] go = go
 in_order_then (r ∷ rs) go = r >>= λ f. next f (in_order_then rs go)
 
-pub in_order_push : (rs : List (Run Flow)) (r go : Run Flow) → in_order_then (rs ++ r ∷ []) go ≡ in_order_then rs (r >>= λ f. next f go)
+pub in_order_push : (rs : List (Run Flow)) (r go : Run Flow)
+    → in_order_then (rs ++ r ∷ []) go ≡ in_order_then rs (r >>= λ f. next f go)
 in_order_push [] r go = refl
 in_order_push (q ∷ rs) r go = ap (λ (rest : Run Flow). q >>= λ f. next f rest) (in_order_push rs r go)
 

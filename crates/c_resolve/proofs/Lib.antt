@@ -1,8 +1,8 @@
 pub mod Acting
-pub mod Entries
+pub mod EntriesLemmas
 pub mod Numbering
 pub mod Over
 pub mod Passing
-pub mod Resolved
-pub mod Routines
-pub mod Views
+pub mod ResolvedLemmas
+pub mod RoutinesLemmas
+pub mod ActionViews

@@ -20,9 +20,9 @@ use Rattle.c_semantics.specs.Memory.{store_at, blank}
 use Rattle.c_semantics.specs.Names.{Definition}
 use Rattle.c_semantics.specs.Eval.{Calls}
 use Rattle.c_semantics.specs.declared.flow.Flow.{Flow}
-use Rattle.c_semantics.specs.declared.flow.Flow.TheVariants.{Normal, Broke, Continued, Gave}
+use Rattle.c_semantics.specs.declared.flow.Flow.TheVariants.{Normal, AtBreak, AtContinue, AtReturn}
 use Rattle.c_semantics.specs.Exec.{next, after_turn, loop, count_where, with_locals}
-use Rattle.c_resolve.specs.Nodes.{converted_by, runs}
+use Rattle.c_resolve.specs.Nodes.{cast_value, runs}
 use Rattle.c_semantics.specs.Meaning.{in_frame}
 
 -- statements, one behind the other
@@ -32,45 +32,45 @@ in_order (r ∷ rs) = do
   f ← r
   next f (in_order rs)
 
-abbrev pub evaluated : Run (Unit {0}) → Run Flow
-evaluated e = do
+abbrev pub expr_run : Run (Unit {0}) → Run Flow
+expr_run e = do
   count
   e
   pure Normal
 
-abbrev pub declaration : Bool → Run (Unit {0}) → Run Flow
-declaration counted passing = do
+abbrev pub vars_run : Bool → Run (Unit {0}) → Run Flow
+vars_run counted passing = do
   count_where counted
   passing
   pure Normal
 
-abbrev pub branch : Run ℕ → Run Flow → Run Flow → Run Flow
-branch c body other = do
+abbrev pub if_run : Run ℕ → Run Flow → Run Flow → Run Flow
+if_run c body other = do
   count
   x ← c
   if x == 0 then other else body
 
-abbrev pub while_loop : Run ℕ → Run Flow → Run Flow
-while_loop c body = do
+abbrev pub while_run : Run ℕ → Run Flow → Run Flow
+while_run c body = do
   count
   loop c body (pure tt)
 
-abbrev pub do_loop : Run Flow → Run ℕ → Run Flow
-do_loop body c = do
+abbrev pub do_run : Run Flow → Run ℕ → Run Flow
+do_run body c = do
   count
   count
   f ← body
   after_turn f (loop c body (pure tt))
 
-abbrev pub for_loop : List Local → Run (Unit {0}) → Run ℕ → Run (Unit {0}) → Run Flow → Run Flow
-for_loop ls first c step body = do
+abbrev pub for_run : List Local → Run (Unit {0}) → Run ℕ → Run (Unit {0}) → Run Flow → Run Flow
+for_run ls first c step body = do
   count
   with_locals ls (do
     first
     loop c body step)
 
-abbrev pub returned : Run Flow → Run Flow
-returned gives = do
+abbrev pub return_run : Run Flow → Run Flow
+return_run gives = do
   count
   gives
 
@@ -86,27 +86,27 @@ module _ (definitions : List Definition) (input : List ℕ) (calls : Calls) wher
   abbrev pub unused_run : Node → Run (Unit {0})
   unused_run n = (runs definitions input calls n).unused
 
-  abbrev pub begun_run : Local → Place → Begun → Run (Unit {0})
-  begun_run l at begun.Blank = do
+  abbrev pub init_run : Local → Place → Begun → Run (Unit {0})
+  init_run l at begun.Blank = do
     store ← now
     change (record store { bytes = blank (store.sp + l.offset) l.size store.bytes })
-  begun_run l at (begun.Set h n) = do
+  init_run l at (begun.Set h n) = do
     v ← value_run n
     store ← now
     store_at h (store.sp + l.offset) v at
     pure tt
-  begun_run l at begun.Nothing = pure tt
+  init_run l at begun.Nothing = pure tt
 
   abbrev pub passing : List Passed → Run (Unit {0})
   passing [] = pure tt
   passing (p ∷ ps) = do
-    begun_run p.local p.place p.begun
+    init_run p.local p.place p.begun
     passing ps
 
-  abbrev pub beginning_run : Beginning → Run (Unit {0})
-  beginning_run beginning.Nothing = pure tt
-  beginning_run (beginning.Declare ps) = passing ps.items
-  beginning_run (beginning.Evaluate n) = unused_run n
+  abbrev pub first_run : Beginning → Run (Unit {0})
+  first_run beginning.Nothing = pure tt
+  first_run (beginning.Vars ps) = passing ps.items
+  first_run (beginning.Expr n) = unused_run n
 
   abbrev pub test_run : Option Node → Run ℕ
   test_run None = pure 1
@@ -116,26 +116,27 @@ module _ (definitions : List Definition) (input : List ℕ) (calls : Calls) wher
   step_run None = pure tt
   step_run (Some n) = unused_run n
 
-  abbrev pub given : Held → Option Node → Run Flow
-  given h None = pure (Gave None)
-  given h (Some n) = do
+  abbrev pub return_flow_run : Held → Option Node → Run Flow
+  return_flow_run h None = pure (AtReturn None)
+  return_flow_run h (Some n) = do
     v ← value_run n
-    pure (Gave (Some (converted_by h v)))
+    pure (AtReturn (Some (cast_value h v)))
 
   -- one level of a statement, with what each part does in its place
   abbrev pub action_step : Action-F (Run Flow) → Run Flow
-  action_step one.Nothing = ends_with Normal
-  action_step (one.Evaluate n) = evaluated (unused_run n)
-  action_step (one.Declare counted ps) = declaration counted (passing ps.items)
+  action_step one.Empty = ends_with Normal
+  action_step (one.Expr n) = expr_run (unused_run n)
+  action_step (one.Vars counted ps) = vars_run counted (passing ps.items)
   action_step (one.Block ls body) = with_locals ls.items (in_order body.items)
-  action_step (one.Branch c body) = branch (value_run c) body.value (pure Normal)
-  action_step (one.Fork c body other) = branch (value_run c) body.value other.value
-  action_step (one.While c body) = while_loop (value_run c) body.value
-  action_step (one.DoWhile body c) = do_loop body.value (value_run c)
-  action_step (one.For ls f c d body) = for_loop ls.items (beginning_run f) (test_run c) (step_run d) body.value
-  action_step (one.Return h value) = returned (given h value)
-  action_step one.Break = ends_with Broke
-  action_step one.Continue = ends_with Continued
+  action_step (one.If c body) = if_run (value_run c) body.value (pure Normal)
+  action_step (one.IfElse c body other) = if_run (value_run c) body.value other.value
+  action_step (one.While c body) = while_run (value_run c) body.value
+  action_step (one.Do body c) = do_run body.value (value_run c)
+  action_step (one.For ls f c d body) =
+      for_run ls.items (first_run f) (test_run c) (step_run d) body.value
+  action_step (one.Return h value) = return_run (return_flow_run h value)
+  action_step one.Break = ends_with AtBreak
+  action_step one.Continue = ends_with AtContinue
 
   abbrev pub action_run : Action → Run Flow
   action_run = fold-Action (Run Flow) action_step
@@ -153,7 +154,8 @@ module _ (definitions : List Definition) (input : List ℕ) (calls : Calls) wher
 
   -- a function in a frame of its own
   abbrev pub routine_run : Routine → List ℕ → Run (Option ℕ)
-  routine_run r vs = in_frame r.is_main r.frame (with_locals r.locals.items (arguments_run r.parameters.items vs >> body_run r.body.items))
+  routine_run r vs = in_frame r.is_main r.frame
+      (with_locals r.locals.items (arguments_run r.parameters.items vs >> body_run r.body.items))
 
   -- an `else`, where there is one
   abbrev pub optional_run : Option Action → Run Flow

@@ -7,7 +7,7 @@ use Rattle.std.specs.Coded.{coded_ℕ, coded_option}
 use base.Stored.{Coded-set}
 use mathlib.Core.HLevel.{×_prop, Unit-prop}
 use Rattle.std.proofs.Common.{Vec, Global}
-use Rattle.c_tree.specs.View.{shape}
+use Rattle.c_tree.specs.View.{ty_of}
 use Rattle.c_resolve.specs.declared.named.Entry.{Entry}
 use Rattle.c_resolve.specs.declared.named.Named.{Named as Coded}
 use Rattle.c_resolve.specs.declared.named.Named.TheVariants as coded
@@ -20,8 +20,9 @@ module _ (definitions : List Definition) where
   numbered (Some k) = slice_get definitions k
 
   abbrev pub named : Coded → Named
-  named (coded.Variable ty home) = Variable (shape ty) home
-  named (coded.Routine result parameters k) = Routine (shape result) (map shape parameters.items) (numbered k)
+  named (coded.Variable ty home) = Variable (ty_of ty) home
+  named (coded.Routine result parameters k) =
+      Routine (ty_of result) (map ty_of parameters.items) (numbered k)
 
   -- one name after another
   abbrev pub with_entries : Names → List Entry → Names
@@ -46,15 +47,19 @@ lasts_from n lasts (e ∷ es) = lasts_from (suc n) (with_last e.name n lasts) es
 -- each entry hides the last one before it
 abbrev pub AreHidden : ℕ → Lasts → List Entry → Type 0
 AreHidden n lasts [] = Unit {0}
-AreHidden n lasts (e ∷ es) = (e.hides ≡ lasts e.name) × AreHidden (suc n) (with_last e.name n lasts) es
+AreHidden n lasts (e ∷ es) =
+    (e.hides ≡ lasts e.name) × AreHidden (suc n) (with_last e.name n lasts) es
 
 pub AreHidden-prop : (n : ℕ) (lasts : Lasts) (es : List Entry) → IsProp (AreHidden n lasts es)
 AreHidden-prop n lasts [] = Unit-prop
-AreHidden-prop n lasts (e ∷ es) = ×_prop (Coded-set (coded_option coded_ℕ) e.hides (lasts e.name)) (AreHidden-prop (suc n) (with_last e.name n lasts) es)
+AreHidden-prop n lasts (e ∷ es) =
+    ×_prop (Coded-set (coded_option coded_ℕ) e.hides (lasts e.name))
+    (AreHidden-prop (suc n) (with_last e.name n lasts) es)
 
 -- what the index has for a name
 abbrev pub indexed_at : BTreeMap (Vec ℕ Global) ℕ → Lasts
 indexed_at index = λ name. get_by (λ key. slice_cmp nat_cmp name key.items) index
 
 abbrev pub IsIndexOf : List Entry → BTreeMap (Vec ℕ Global) ℕ → Type 0
-IsIndexOf entries index = (name : List ℕ) → indexed_at index name ≡ lasts_from 0 no_lasts entries name
+IsIndexOf entries index = (name : List ℕ)
+    → indexed_at index name ≡ lasts_from 0 no_lasts entries name

@@ -17,7 +17,7 @@ use Rattle.c_resolve.specs.declared.node.Target.TheVariants as target
 use Rattle.c_semantics.specs.Run.{Run, pure, ◌>>=◌, ◌>>◌, count, given_or}
 use Rattle.c_semantics.specs.Memory.{value_at}
 use Rattle.c_semantics.specs.Names.{Definition, address_of}
-use Rattle.c_semantics.specs.Eval.{Calls, enter, getchar, putchar, call, strict, infix_run, prefix_run, stepped, stored, choice}
+use Rattle.c_semantics.specs.Eval.{Calls, enter, getchar, putchar, call, strict, binary_run, unary_run, stepped, assign_run, conditional_run}
 
 -- what a run does, without its value
 abbrev pub ignored : {A : Type 0} → Run A → Run (Unit {0})
@@ -32,7 +32,8 @@ pub record Runs : Type 0 where
 
 -- of an expression that may be a place
 abbrev pub placed : Run ℕ → Run ℕ → Place → Runs
-placed value address at = record { value = value; address = address; unused = ignored value; place = at }
+placed value address at =
+    record { value = value; address = address; unused = ignored value; place = at }
 
 -- of one that isn't
 abbrev pub valued : Run ℕ → Place → Runs
@@ -43,18 +44,18 @@ constant n = do
   count
   pure n
 
-abbrev pub variable_address : Home → Run ℕ
-variable_address home = do
+abbrev pub name_address : Home → Run ℕ
+name_address home = do
   count
   address_of home
 
-abbrev pub variable : Home → Held → Place → Run ℕ
-variable home h at = do
-  x ← variable_address home
+abbrev pub name_run : Home → Held → Place → Run ℕ
+name_run home h at = do
+  x ← name_address home
   value_at h x at
 
-abbrev pub element_run : Operand → Operand → Held → Place → Run ℕ → Run ℕ → Run ℕ
-element_run c d h at a b = do
+abbrev pub index_run : Operand → Operand → Held → Place → Run ℕ → Run ℕ → Run ℕ
+index_run c d h at a b = do
   x ← strict binary.Plus c d at a b
   value_at h x at
 
@@ -65,16 +66,16 @@ pointer a = do
   pure x
 
 -- a value of a type that is held so
-abbrev pub converted_by : Held → ℕ → ℕ
-converted_by Byte x = x % 2 ^ 8
-converted_by Word x = x % 2 ^ 32
-converted_by Array x = x % 2 ^ 32
+abbrev pub cast_value : Held → ℕ → ℕ
+cast_value Byte x = x % 2 ^ 8
+cast_value Word x = x % 2 ^ 32
+cast_value Array x = x % 2 ^ 32
 
-abbrev pub conversion : Held → Run ℕ → Run ℕ
-conversion h a = do
+abbrev pub cast_run : Held → Run ℕ → Run ℕ
+cast_run h a = do
   x ← a
   count
-  pure (converted_by h x)
+  pure (cast_value h x)
 
 abbrev pub used : Run (Option ℕ) → Place → Run ℕ
 used run at = do
@@ -105,15 +106,20 @@ module _ (definitions : List Definition) (input : List ℕ) (calls : Calls) wher
   -- one level of an expression, with what each operand does in its place
   abbrev pub node_step : NodeKind-F (Place → Runs) Runs → Place → Runs
   node_step (one.Constant n) at = valued (constant n) at
-  node_step (one.Variable home h) at = placed (variable home h at) (variable_address home) at
-  node_step (one.Prefix op c h a) at = placed (prefix_run op c h at a.value.value a.value.address) (pointer a.value.value) at
+  node_step (one.Name home h) at = placed (name_run home h at) (name_address home) at
+  node_step (one.Unary op c h a) at =
+      placed (unary_run op c h at a.value.value a.value.address) (pointer a.value.value) at
   node_step (one.Step how c h a) at = valued (stepped how c h a.value.place at a.value.address) at
-  node_step (one.Convert h a) at = valued (conversion h a.value.value) at
-  node_step (one.Infix op c d a b) at = valued (infix_run op c d at a.value.value b.value.value) at
-  node_step (one.Choice c a b) at = valued (choice c.value.value a.value.value b.value.value) at
-  node_step (one.Assign how c d h a b) at = valued (stored how c d h a.value.place at a.value.address b.value.value) at
-  node_step (one.Element c d h a b) at =
-      placed (element_run c d h at a.value.value b.value.value) (strict binary.Plus c d at a.value.value b.value.value) at
+  node_step (one.Cast h a) at = valued (cast_run h a.value.value) at
+  node_step (one.Binary op c d a b) at =
+      valued (binary_run op c d at a.value.value b.value.value) at
+  node_step (one.Conditional c a b) at =
+      valued (conditional_run c.value.value a.value.value b.value.value) at
+  node_step (one.Assign how c d h a b) at =
+      valued (assign_run how c d h a.value.place at a.value.address b.value.value) at
+  node_step (one.Index c d h a b) at =
+      placed (index_run c d h at a.value.value b.value.value)
+      (strict binary.Plus c d at a.value.value b.value.value) at
   node_step (one.Call t all) at = called (call (all_values all.items) (target_run t)) at
 
   abbrev pub runs : Node → Runs

@@ -27,24 +27,24 @@ pub struct Passed {
 #[derive(Debug, Drop)]
 pub enum Beginning {
     Nothing,
-    Declare(Vec<Passed>),
-    Evaluate(Node),
+    Vars(Vec<Passed>),
+    Expr(Node),
 }
 
 /// A statement.
 #[cycle(action)]
 #[derive(Debug, Drop)]
 pub enum Action {
-    Nothing,
-    Evaluate(Node),
+    Empty,
+    Expr(Node),
     /// A declaration, and whether it counts as a step.
-    Declare(bool, Vec<Passed>),
+    Vars(bool, Vec<Passed>),
     /// A block, with its own locals.
     Block(Vec<Local>, Vec<Action>),
-    Branch(Node, Box<Action>),
-    Fork(Node, Box<Action>, Box<Action>),
+    If(Node, Box<Action>),
+    IfElse(Node, Box<Action>, Box<Action>),
     While(Node, Box<Action>),
-    DoWhile(Box<Action>, Node),
+    Do(Box<Action>, Node),
     /// A `for`, with the locals that it declares itself.
     For(Vec<Local>, Beginning, Option<Node>, Option<Node>, Box<Action>),
     /// A `return`, with what the function's result holds.

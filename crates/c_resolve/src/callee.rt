@@ -2,14 +2,14 @@
 
 ghost use Rattle.std.specs.Prelude.{◌≡◌, ℕ, List, [], Some, true};
 ghost use Rattle.c_tree.specs.Scope.{FunctionOf};
-ghost use Rattle.c_tree.specs.View.{shape};
+ghost use Rattle.c_tree.specs.View.{ty_of};
 ghost use Rattle.c_tree.specs.Typing.{called as named, result_of, parameters_of};
 ghost use Rattle.c_types.specs.Call.{parameters};
 ghost use Rattle.c_types.specs.Seen.{seen_some};
 ghost use Rattle.c_semantics.specs.Eval.{Calls, called};
 ghost use Rattle.c_semantics.specs.Names.{Definition, types};
 ghost use Rattle.c_resolve.specs.Nodes.{target_run};
-ghost use Rattle.c_resolve.specs.Resolved.{names_in};
+ghost use Rattle.c_resolve.specs.private.Resolved.{names_in};
 
 use crate::named::Named;
 use crate::names::Names;
@@ -19,7 +19,9 @@ use c_types::{Base, Parameters, Seen, is_void};
 
 /// What a call names.
 pub(super) fn target(callee: &Callee, names: &Names) -> Target
-    ensures { (definitions : List Definition) → (input : List ℕ) → (calls : Calls) → target_run definitions input calls result ≡ called input calls (names_in definitions names.now) callee.now }
+    ensures { (definitions : List Definition) → (input : List ℕ) → (calls : Calls)
+        → target_run definitions input calls result
+        ≡ called input calls (names_in definitions names.now) callee.now }
 {
     match callee {
         Callee::Getchar => Target::Getchar,
@@ -33,7 +35,9 @@ pub(super) fn target(callee: &Callee, names: &Names) -> Target
 
 /// What it takes.
 pub(super) fn parameters<'a>(callee: &Callee, names: &'a Names) -> Parameters<'a>
-    ensures { (definitions : List Definition) → parameters result ≡ parameters_of (named (types (names_in definitions names.now)) callee.now) }
+    ensures { (definitions : List Definition)
+        → parameters result ≡ parameters_of
+        (named (types (names_in definitions names.now)) callee.now) }
 {
     match callee {
         Callee::Getchar => Parameters::Listed(&[]),
@@ -47,7 +51,8 @@ pub(super) fn parameters<'a>(callee: &Callee, names: &'a Names) -> Parameters<'a
 
 /// The type of its value, where it has one.
 pub(super) fn value_type<'a>(callee: &Callee, names: &'a Names) -> Option<Seen<'a>>
-    ensures { (definitions : List Definition) → seen_some result ≡ result_of (named (types (names_in definitions names.now)) callee.now) }
+    ensures { (definitions : List Definition)
+        → seen_some result ≡ result_of (named (types (names_in definitions names.now)) callee.now) }
 {
     match callee {
         Callee::Getchar => Some(Seen::Is(Base::Int)),
@@ -60,7 +65,7 @@ pub(super) fn value_type<'a>(callee: &Callee, names: &'a Names) -> Option<Seen<'
 }
 
 fn not_void<'a>(gives: &'a CType) -> Option<Seen<'a>>
-    ensures { seen_some result ≡ result_of (Some (FunctionOf (shape gives.now) [] true)) }
+    ensures { seen_some result ≡ result_of (Some (FunctionOf (ty_of gives.now) [] true)) }
 {
     if is_void(gives) {
         None

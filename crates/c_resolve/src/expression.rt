@@ -2,22 +2,25 @@
 
 ghost use Rattle.std.specs.Prelude.{◌≡◌, ℕ, List, true, None, map, IfOk};
 ghost use Rattle.c_tree.specs.Rules.{is_place};
-ghost use Rattle.c_tree.specs.Syntax.{Called, Variable};
+ghost use Rattle.c_tree.specs.Expr as expr;
 ghost use Rattle.c_tree.specs.Typing.{type_at, all_taken};
-ghost use Rattle.c_tree.specs.View.{expression, expressions};
+ghost use Rattle.c_tree.specs.View.{expr_of, exprs_of};
 ghost use Rattle.c_types.specs.Call.{parameters};
 ghost use Rattle.c_types.specs.Seen.{seen_some, is_flat};
 ghost use Rattle.c_types.specs.Spine.{first_operand, below, down};
 ghost use Rattle.c_semantics.specs.Eval.{Calls, arguments};
 ghost use Rattle.c_semantics.specs.Names.{Definition, types};
 ghost use Rattle.c_resolve.specs.Nodes.{runs, all_values};
-ghost use Rattle.c_resolve.specs.Resolved.{names_in, IsTypeOf, IsNodeOf};
+ghost use Rattle.c_resolve.specs.private.Resolved.{names_in, IsTypeOf, IsNodeOf};
 
 use crate::callee::{parameters, target, value_type};
 use crate::named::Named;
 use crate::names::Names;
 use crate::node::{Node, NodeKind};
-use crate::part::{assign, cast, choice, constant, index, infix, prefix, step, variable};
+use crate::part::{
+    build_assign, build_binary, build_cast, build_conditional, build_constant, build_index,
+    build_name, build_step, build_unary,
+};
 use crate::typed::Typed;
 use c_semantics::Home;
 use c_tree::{Callee, Expr, ExprKind, Name, OutOfMemory, Place};
@@ -28,15 +31,15 @@ use c_types::{
 use std::alloc::Global;
 
 /// A name.
-#[tactic(auto, using(crate::proofs::Resolved::typed_name))]
-fn named<'a>(name: &Name, names: &'a Names, at: Place) -> Typed<'a>
-    ensures ty { IsTypeOf names.now result.ty (Variable name.now at) }
+#[tactic(auto, using(crate::proofs::ResolvedLemmas::typed_name))]
+fn resolve_name<'a>(name: &Name, names: &'a Names, at: Place) -> Typed<'a>
+    ensures ty { IsTypeOf names.now result.ty (expr.Name name.now at) }
     ensures flat { is_flat result.ty ≡ true }
-    ensures means { IsNodeOf names.now result.node (Variable name.now at) }
+    ensures means { IsNodeOf names.now result.node (expr.Name name.now at) }
 {
     match names.find(name) {
-        Some(Named::Variable(ty, home)) => variable(*home, Some(Seen::of(ty)), at),
-        _ => variable(Home::Nowhere, None, at),
+        Some(Named::Variable(ty, home)) => build_name(*home, Some(Seen::of(ty)), at),
+        _ => build_name(Home::Nowhere, None, at),
     }
 }
 
@@ -48,15 +51,20 @@ struct AllArguments {
 }
 
 #[cycle(resolving)]
-fn arguments<'a>(
+fn resolve_arguments<'a>(
     alloc: Global,
     args: &'a [Expr],
     taken: Parameters<'a>,
     names: &'a Names,
 ) -> Result<AllArguments, OutOfMemory>
-    ensures taken { IfOk result (λ r. (definitions : List Definition) → r.are_taken ≡ all_taken (types (names_in definitions names.now)) (parameters taken.entry) (expressions args.now)) }
-    ensures means { IfOk result (λ r. (definitions : List Definition) → (input : List ℕ) → (calls : Calls) →
-        all_values (map (runs definitions input calls) r.nodes.items) ≡ arguments input calls (names_in definitions names.now) (expressions args.now)) }
+    ensures taken { IfOk result
+        (λ r. (definitions : List Definition)
+        → r.are_taken ≡ all_taken (types (names_in definitions names.now)) (parameters taken.entry)
+        (exprs_of args.now)) }
+    ensures means { IfOk result
+        (λ r. (definitions : List Definition) → (input : List ℕ) → (calls : Calls) →
+        all_values (map (runs definitions input calls) r.nodes.items)
+        ≡ arguments input calls (names_in definitions names.now) (exprs_of args.now)) }
 {
     let mut nodes = Vec::new(alloc);
     let mut passed = Passed {
@@ -79,17 +87,19 @@ fn arguments<'a>(
 
 /// A call.
 #[cycle(resolving)]
-fn call<'a>(
+fn resolve_call<'a>(
     alloc: Global,
     callee: &'a Callee,
     args: &'a [Expr],
     names: &'a Names,
     at: Place,
 ) -> Result<Typed<'a>, OutOfMemory>
-    ensures ty { IfOk result (λ t. IsTypeOf names.now t.ty (Called callee.now (expressions args.now) at)) }
-    ensures means { IfOk result (λ t. IsNodeOf names.now t.node (Called callee.now (expressions args.now) at)) }
+    ensures ty { IfOk result
+        (λ t. IsTypeOf names.now t.ty (expr.Call callee.now (exprs_of args.now) at)) }
+    ensures means { IfOk result
+        (λ t. IsNodeOf names.now t.node (expr.Call callee.now (exprs_of args.now) at)) }
 {
-    let all = arguments(alloc, args, parameters(callee, names), names)?;
+    let all = resolve_arguments(alloc, args, parameters(callee, names), names)?;
     let ty = where_right(all.are_taken, value_type(callee, names));
     let kind = NodeKind::Call(target(callee, names), all.nodes);
     Ok(Typed {
@@ -100,38 +110,45 @@ fn call<'a>(
 
 /// An expression without a first operand.
 #[cycle(resolving)]
-#[tactic(auto, using(c_tree::proofs::Views::views))]
-fn leaf<'a>(alloc: Global, e: &'a Expr, names: &'a Names) -> Result<Typed<'a>, OutOfMemory>
-    requires { first_operand (expression e.now) ≡ None }
-    ensures ty { IfOk result (λ t. IsTypeOf names.now t.ty (expression e.now)) }
-    ensures flat { IfOk result (λ t. is_place (expression e.now) ≡ true → is_flat t.ty ≡ true) }
-    ensures means { IfOk result (λ t. IsNodeOf names.now t.node (expression e.now)) }
+#[tactic(auto, using(c_tree::proofs::ViewLemmas::views))]
+fn resolve_leaf<'a>(alloc: Global, e: &'a Expr, names: &'a Names) -> Result<Typed<'a>, OutOfMemory>
+    requires { first_operand (expr_of e.now) ≡ None }
+    ensures ty { IfOk result (λ t. IsTypeOf names.now t.ty (expr_of e.now)) }
+    ensures flat { IfOk result (λ t. is_place (expr_of e.now) ≡ true → is_flat t.ty ≡ true) }
+    ensures means { IfOk result (λ t. IsNodeOf names.now t.node (expr_of e.now)) }
 {
     match &e.kind {
-        ExprKind::Name(name) => Ok(named(name, names, e.place)),
-        ExprKind::Number(ty, value) => Ok(constant(*value, Seen::of(ty), e.place)),
-        ExprKind::Character(code) => Ok(constant(*code, Seen::Is(Base::Int), e.place)),
-        ExprKind::Eof => Ok(constant(u32::MAX, Seen::Is(Base::Int), e.place)),
-        ExprKind::Call(callee, args) => call(alloc, callee, args.as_slice(), names, e.place),
+        ExprKind::Name(name) => Ok(resolve_name(name, names, e.place)),
+        ExprKind::Number(ty, value) => Ok(build_constant(*value, Seen::of(ty), e.place)),
+        ExprKind::Character(code) => Ok(build_constant(*code, Seen::Is(Base::Int), e.place)),
+        ExprKind::Eof => Ok(build_constant(u32::MAX, Seen::Is(Base::Int), e.place)),
+        ExprKind::Call(callee, args) => resolve_call(
+            alloc,
+            callee,
+            args.as_slice(),
+            names,
+            e.place,
+        ),
         _ => unreachable!(),
     }
 }
 
 /// An expression over its first operand, which is resolved.
 #[cycle(resolving)]
-#[tactic(auto, using(c_tree::proofs::Views::views))]
-fn above<'a>(
+#[tactic(auto, using(c_tree::proofs::ViewLemmas::views))]
+fn resolve_above<'a>(
     alloc: Global,
     e: &'a Expr,
     first: Typed<'a>,
     names: &'a Names,
 ) -> Result<Typed<'a>, OutOfMemory>
-    requires ty { IsTypeOf names.now first.ty (below Along.Operands (expression e.now)) }
-    requires flat { is_place (below Along.Operands (expression e.now)) ≡ true → is_flat first.ty ≡ true }
-    requires means { IsNodeOf names.now first.node (below Along.Operands (expression e.now)) }
-    ensures ty { IfOk result (λ t. IsTypeOf names.now t.ty (expression e.now)) }
-    ensures flat { IfOk result (λ t. is_place (expression e.now) ≡ true → is_flat t.ty ≡ true) }
-    ensures means { IfOk result (λ t. IsNodeOf names.now t.node (expression e.now)) }
+    requires ty { IsTypeOf names.now first.ty (below Along.Operands (expr_of e.now)) }
+    requires flat { is_place (below Along.Operands (expr_of e.now)) ≡ true
+        → is_flat first.ty ≡ true }
+    requires means { IsNodeOf names.now first.node (below Along.Operands (expr_of e.now)) }
+    ensures ty { IfOk result (λ t. IsTypeOf names.now t.ty (expr_of e.now)) }
+    ensures flat { IfOk result (λ t. is_place (expr_of e.now) ≡ true → is_flat t.ty ≡ true) }
+    ensures means { IfOk result (λ t. IsNodeOf names.now t.node (expr_of e.now)) }
 {
     match &e.kind {
         ExprKind::Name(_) => Ok(first),
@@ -139,28 +156,28 @@ fn above<'a>(
         ExprKind::Character(_) => Ok(first),
         ExprKind::Eof => Ok(first),
         ExprKind::Call(_, _) => Ok(first),
-        ExprKind::Unary(op, a) => prefix(alloc, *op, is_place(a), first, e.place),
-        ExprKind::Step(how, a) => step(alloc, *how, is_place(a), first, e.place),
-        ExprKind::Cast(to, _) => cast(alloc, to, first, e.place),
+        ExprKind::Unary(op, a) => build_unary(alloc, *op, is_place(a), first, e.place),
+        ExprKind::Step(how, a) => build_step(alloc, *how, is_place(a), first, e.place),
+        ExprKind::Cast(to, _) => build_cast(alloc, to, first, e.place),
         ExprKind::Binary(op, a, b) => {
             let second = resolve(alloc, b, names)?;
             let noughts = (is_nought(a), is_nought(b));
-            infix(alloc, *op, noughts, first, second, e.place)
+            build_binary(alloc, *op, noughts, first, second, e.place)
         }
         ExprKind::Conditional(_, a, b) => {
             let left = resolve(alloc, a, names)?;
             let right = resolve(alloc, b, names)?;
             let noughts = (is_nought(a), is_nought(b));
-            choice(alloc, noughts, first, left, right, e.place)
+            build_conditional(alloc, noughts, first, left, right, e.place)
         }
         ExprKind::Assign(how, a, b) => {
             let second = resolve(alloc, b, names)?;
             let rule = (*how, is_nought(b));
-            assign(alloc, rule, is_place(a), first, second, e.place)
+            build_assign(alloc, rule, is_place(a), first, second, e.place)
         }
         ExprKind::Index(_, b) => {
             let second = resolve(alloc, b, names)?;
-            index(alloc, first, second, e.place)
+            build_index(alloc, first, second, e.place)
         }
     }
 }
@@ -174,19 +191,20 @@ fn rise<'a>(
     end: Typed<'a>,
     names: &'a Names,
 ) -> Result<Typed<'a>, OutOfMemory>
-    requires ty { IsTypeOf names.now end.ty (down Along.Operands count (expression e.now)) }
-    requires flat { is_place (down Along.Operands count (expression e.now)) ≡ true → is_flat end.ty ≡ true }
-    requires means { IsNodeOf names.now end.node (down Along.Operands count (expression e.now)) }
-    ensures ty { IfOk result (λ t. IsTypeOf names.now t.ty (expression e.now)) }
-    ensures flat { IfOk result (λ t. is_place (expression e.now) ≡ true → is_flat t.ty ≡ true) }
-    ensures means { IfOk result (λ t. IsNodeOf names.now t.node (expression e.now)) }
+    requires ty { IsTypeOf names.now end.ty (down Along.Operands count (expr_of e.now)) }
+    requires flat { is_place (down Along.Operands count (expr_of e.now)) ≡ true
+        → is_flat end.ty ≡ true }
+    requires means { IsNodeOf names.now end.node (down Along.Operands count (expr_of e.now)) }
+    ensures ty { IfOk result (λ t. IsTypeOf names.now t.ty (expr_of e.now)) }
+    ensures flat { IfOk result (λ t. is_place (expr_of e.now) ≡ true → is_flat t.ty ≡ true) }
+    ensures means { IfOk result (λ t. IsNodeOf names.now t.node (expr_of e.now)) }
 {
     let mut typed = end;
     let mut left = count;
     while 0 < left {
         left -= 1;
         let node = descend(Along::Operands, e, left);
-        typed = above(alloc, node, typed, names)?;
+        typed = resolve_above(alloc, node, typed, names)?;
     }
     Ok(typed)
 }
@@ -194,16 +212,16 @@ fn rise<'a>(
 /// What an expression does, and its type where it has one.
 #[cycle(resolving)]
 pub fn resolve<'a>(alloc: Global, e: &'a Expr, names: &'a Names) -> Result<Typed<'a>, OutOfMemory>
-    ensures ty { IfOk result (λ t. IsTypeOf names.now t.ty (expression e.now)) }
-    ensures flat { IfOk result (λ t. is_place (expression e.now) ≡ true → is_flat t.ty ≡ true) }
-    ensures means { IfOk result (λ t. IsNodeOf names.now t.node (expression e.now)) }
+    ensures ty { IfOk result (λ t. IsTypeOf names.now t.ty (expr_of e.now)) }
+    ensures flat { IfOk result (λ t. is_place (expr_of e.now) ≡ true → is_flat t.ty ≡ true) }
+    ensures means { IfOk result (λ t. IsNodeOf names.now t.node (expr_of e.now)) }
 {
     let Some(_first) = operand(Along::Operands, e) else {
-        return leaf(alloc, e, names);
+        return resolve_leaf(alloc, e, names);
     };
     let lowest = follow(Along::Operands, e);
     if lowest.count < LIMIT {
-        let end = leaf(alloc, lowest.end, names)?;
+        let end = resolve_leaf(alloc, lowest.end, names)?;
         rise(alloc, e, lowest.count, end, names)
     } else {
         let end = resolve(alloc, lowest.end, names)?;

@@ -2,13 +2,13 @@
 
 ghost use Rattle.std.specs.Prelude.{◌≡◌, ◌++◌, bytes_eq, map, IfOk, OnOk};
 ghost use Rattle.c_tree.specs.Declarators.{parameter_shape};
-ghost use Rattle.c_tree.specs.View.{function, parameter, statements};
+ghost use Rattle.c_tree.specs.View.{fun_of, param_of, stmts_of};
 ghost use Rattle.c_layout.specs.Frames.{frame_of};
-ghost use Rattle.c_layout.specs.Outcome.{planned_of};
-ghost use Rattle.c_resolve.specs.Acted.{IsKept, AreNames, IsRoutineOf, parameters_at};
+ghost use Rattle.c_layout.specs.LayoutAnswers.{planned_of};
+ghost use Rattle.c_resolve.specs.private.Acted.{IsKept, AreNames, IsRoutineOf, parameters_at};
 ghost use Rattle.c_semantics.specs.Meaning.{main_name, parameter_locals, with_parameter, with_parameters};
 
-use crate::kinds::{held, size};
+use crate::kinds::{held_of, size};
 use crate::named::Named;
 use crate::names::Names;
 use crate::places::past;
@@ -17,7 +17,7 @@ use crate::statement::resolve_body;
 use c_layout::Frame;
 use c_semantics::{Home, Local};
 use c_tree::{Fun, Name, OutOfMemory, Param, Stmt};
-use c_types::{parameter_type, pointed};
+use c_types::{parameter_type, pointer_to};
 use std::alloc::Global;
 
 /// The name of the function that a program starts with.
@@ -31,13 +31,15 @@ pub(super) fn is_main(name: &Name) -> bool
 }
 
 /// Declares a parameter, where it has a name.
-fn declare_parameter(
+fn declare_param(
     alloc: Global,
     p: &Param,
     places: &[u32],
     names: &mut Names,
 ) -> Result<(), OutOfMemory>
-    ensures names { OnOk result (AreNames names.old names.new (with_parameter places.now (parameter_shape (parameter p.now)) p.now.name)) }
+    ensures names { OnOk result
+        (AreNames names.old names.new
+        (with_parameter places.now (parameter_shape (param_of p.now)) p.now.name)) }
     ensures kept { OnOk result (IsKept names.old names.new) }
 {
     let Some(place) = places.first() else {
@@ -53,33 +55,37 @@ fn declare_parameter(
 }
 
 /// Declares parameters.
-fn declare_parameters(
+fn declare_params(
     alloc: Global,
     params: &[Param],
     places: &[u32],
     names: &mut Names,
 ) -> Result<(), OutOfMemory>
-    ensures names { OnOk result (AreNames names.old names.new (with_parameters places.now (map parameter params.now))) }
+    ensures names { OnOk result
+        (AreNames names.old names.new (with_parameters places.now (map param_of params.now))) }
     ensures kept { OnOk result (IsKept names.old names.new) }
 {
     let mut rest = places;
     for p in params {
-        declare_parameter(alloc, p, rest, names)?;
+        declare_param(alloc, p, rest, names)?;
         rest = past(rest, 1);
     }
     Ok(())
 }
 
 /// What arguments are written into, and the parameters' objects.
-fn push_parameters(
+fn push_params(
     alloc: Global,
     params: &[Param],
     places: &[u32],
     out: &mut Vec<Parameter>,
     locals: &mut Vec<Local>,
 ) -> Result<(), OutOfMemory>
-    ensures parameters { OnOk result (out.new.items ≡ out.old.items ++ parameters_at places.now (map parameter params.now)) }
-    ensures locals { OnOk result (locals.new.items ≡ locals.old.items ++ parameter_locals places.now (map parameter params.now)) }
+    ensures parameters { OnOk result
+        (out.new.items ≡ out.old.items ++ parameters_at places.now (map param_of params.now)) }
+    ensures locals { OnOk result
+        (locals.new.items ≡ locals.old.items
+        ++ parameter_locals places.now (map param_of params.now)) }
 {
     let mut rest = places;
     for p in params {
@@ -89,7 +95,7 @@ fn push_parameters(
         let ty = parameter_type(alloc, p)?;
         out.push(Parameter {
             offset: *place,
-            held: held(&ty),
+            held: held_of(&ty),
             place: p.place,
         })?;
         locals.push(Local {
@@ -102,24 +108,26 @@ fn push_parameters(
 }
 
 /// A function that the text defines, in its frame. The names are those of the text.
-pub(super) fn resolve_function(
+pub(super) fn resolve_fun(
     alloc: Global,
     f: &Fun,
     body: &[Stmt],
     frame: &Frame,
     names: &mut Names,
 ) -> Result<Routine, OutOfMemory>
-    requires { planned_of frame.now ≡ frame_of (map parameter f.now.params.items) (statements body.now) }
+    requires { planned_of frame.now
+        ≡ frame_of (map param_of f.now.params.items) (stmts_of body.now) }
     ensures same { OnOk result (names.new.entries.items ≡ names.old.entries.items) }
-    ensures means { IfOk result (λ routine. IsRoutineOf names.old routine (function f.now) (statements body.now)) }
+    ensures means { IfOk result
+        (λ routine. IsRoutineOf names.old routine (fun_of f.now) (stmts_of body.now)) }
 {
     let places = frame.places.as_slice();
     let mut parameters = Vec::new(alloc);
     let mut locals = Vec::new(alloc);
-    push_parameters(alloc, &f.params, places, &mut parameters, &mut locals)?;
+    push_params(alloc, &f.params, places, &mut parameters, &mut locals)?;
     let outer = names.len();
-    declare_parameters(alloc, &f.params, places, names)?;
-    let gives = pointed(alloc, &f.base, f.stars)?;
+    declare_params(alloc, &f.params, places, names)?;
+    let gives = pointer_to(alloc, &f.base, f.stars)?;
     let own = past(places, f.params.len());
     let block = resolve_body(alloc, body, own, &gives, names)?;
     names.leave(outer);

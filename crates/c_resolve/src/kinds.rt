@@ -1,7 +1,7 @@
 //! What the meaning of an act depends on in the types of its operands.
 
 ghost use Rattle.std.specs.Prelude.{◌≡◌, IfOk};
-ghost use Rattle.c_tree.specs.View.{shape};
+ghost use Rattle.c_tree.specs.View.{ty_of};
 ghost use Rattle.c_layout.specs.Sizes.{size};
 ghost use Rattle.c_semantics.specs.Names.{held, held_by, operand_of, operand_by};
 ghost use Rattle.c_types.specs.Seen.{seen, seen_some};
@@ -11,8 +11,8 @@ use c_tree::{CType, OutOfMemory};
 use c_types::{Base, Seen};
 
 /// What an object of a type holds.
-pub fn held(ty: &CType) -> Held
-    ensures { result ≡ held (shape ty.now) }
+pub fn held_of(ty: &CType) -> Held
+    ensures { result ≡ held (ty_of ty.now) }
 {
     match ty {
         CType::Char => Held::Byte,
@@ -26,14 +26,14 @@ pub fn held_by(ty: Option<Seen>) -> Held
     ensures { result ≡ held_by (seen_some ty.entry) }
 {
     match ty {
-        Some(Seen::Is(Base::At(ty))) => held(ty),
+        Some(Seen::Is(Base::At(ty))) => held_of(ty),
         _ => Held::Word,
     }
 }
 
 /// The bytes of an object. No memory holds one whose size has more than 64 bits.
 pub fn size(ty: &CType) -> Result<u64, OutOfMemory>
-    ensures { IfOk result (λ bytes. bytes ≡ size (shape ty.now)) }
+    ensures { IfOk result (λ bytes. bytes ≡ size (ty_of ty.now)) }
 {
     match ty {
         CType::Int => Ok(4),
@@ -64,7 +64,7 @@ fn operand_of(ty: Seen) -> Result<Operand, OutOfMemory>
     if ty.is_unsigned() {
         return Ok(Operand::Unsigned);
     }
-    match ty.pointed() {
+    match ty.pointee() {
         None => Ok(Operand::Signed),
         Some(to) => Ok(Operand::Pointer(size_of(to)?)),
     }

@@ -21,7 +21,7 @@ pub struct Names {
 }
 
 impl Names {
-    ghost use Rattle.c_resolve.specs.Resolved.{names_in};
+    ghost use Rattle.c_resolve.specs.private.Resolved.{names_in};
 
     pub fn new(alloc: Global) -> Names
         ensures { result.entries.items ≡ [] }
@@ -42,7 +42,9 @@ impl Names {
 
     /// What a name stands for.
     pub fn find(&self, name: &Name) -> Option<&Named>
-        ensures { (definitions : List Definition) → option_map (named definitions) (option_copied result) ≡ names_in definitions self.now name.now }
+        ensures { (definitions : List Definition)
+            → option_map (named definitions) (option_copied result)
+            ≡ names_in definitions self.now name.now }
     {
         let number = *self.index.get(name.get())?;
         Some(&self.entries[number].named)
@@ -50,8 +52,12 @@ impl Names {
 
     /// Declares a name, which hides another of the same bytes.
     pub fn declare(&mut self, name: &Name, stands_for: Named) -> Result<(), OutOfMemory>
-        ensures declared { OnOk result ((definitions : List Definition) → names_in definitions self.new ≡ with_name name.now (named definitions stands_for) (names_in definitions self.old)) }
-        ensures kept { OnOk result (take (length self.old.entries.items) self.new.entries.items ≡ self.old.entries.items) }
+        ensures declared { OnOk result
+            ((definitions : List Definition)
+            → names_in definitions self.new
+            ≡ with_name name.now (named definitions stands_for) (names_in definitions self.old)) }
+        ensures kept { OnOk result
+            (take (length self.old.entries.items) self.new.entries.items ≡ self.old.entries.items) }
         ensures refused { OnErr result (self.new.entries.items ≡ self.old.entries.items) }
     {
         let number = self.entries.len();
@@ -72,7 +78,8 @@ impl Names {
 
     /// Forgets the last declaration.
     fn forget(&mut self)
-        ensures { self.new.entries.items ≡ take (length self.old.entries.items - 1) self.old.entries.items }
+        ensures { self.new.entries.items
+            ≡ take (length self.old.entries.items - 1) self.old.entries.items }
     {
         let Some(entry) = self.entries.pop() else {
             return;

@@ -30,14 +30,14 @@ impl Drop for Node {
             let Node { kind, place: _ } = self;
             match kind {
                 NodeKind::Constant(_) => return,
-                NodeKind::Variable(_, _) => return,
-                NodeKind::Prefix(_, _, _, first) => self = Box::into_inner(first),
+                NodeKind::Name(_, _) => return,
+                NodeKind::Unary(_, _, _, first) => self = Box::into_inner(first),
                 NodeKind::Step(_, _, _, first) => self = Box::into_inner(first),
-                NodeKind::Convert(_, first) => self = Box::into_inner(first),
-                NodeKind::Infix(_, _, _, first, _second) => self = Box::into_inner(first),
-                NodeKind::Choice(first, _second, _third) => self = Box::into_inner(first),
+                NodeKind::Cast(_, first) => self = Box::into_inner(first),
+                NodeKind::Binary(_, _, _, first, _second) => self = Box::into_inner(first),
+                NodeKind::Conditional(first, _second, _third) => self = Box::into_inner(first),
                 NodeKind::Assign(_, _, _, _, first, _second) => self = Box::into_inner(first),
-                NodeKind::Element(_, _, _, first, _second) => self = Box::into_inner(first),
+                NodeKind::Index(_, _, _, first, _second) => self = Box::into_inner(first),
                 NodeKind::Call(_, _arguments) => return,
             }
         }
@@ -49,15 +49,15 @@ impl Drop for Node {
 #[derive(Debug, Drop)]
 pub enum NodeKind {
     Constant(u32),
-    Variable(Home, Held),
-    Prefix(Unary, Operand, Held, Box<Node>),
+    Name(Home, Held),
+    Unary(Unary, Operand, Held, Box<Node>),
     Step(Step, Operand, Held, Box<Node>),
     /// A cast, to a char or to a type of 32 bits.
-    Convert(Held, Box<Node>),
-    Infix(Binary, Operand, Operand, Box<Node>, Box<Node>),
-    Choice(Box<Node>, Box<Node>, Box<Node>),
+    Cast(Held, Box<Node>),
+    Binary(Binary, Operand, Operand, Box<Node>, Box<Node>),
+    Conditional(Box<Node>, Box<Node>, Box<Node>),
     /// An assignment, with what its left side holds.
     Assign(Option<Binary>, Operand, Operand, Held, Box<Node>, Box<Node>),
-    Element(Operand, Operand, Held, Box<Node>, Box<Node>),
+    Index(Operand, Operand, Held, Box<Node>, Box<Node>),
     Call(Target, Vec<Node>),
 }

@@ -1,8 +1,8 @@
 //! The numbers of the functions that a text defines.
 
 ghost use Rattle.std.specs.Prelude.{◌≡◌, ◌++◌, ◌∷◌, [], ℕ, List, Some, None, map, bytes_eq, if◌then◌else◌, IfOk, OnOk};
-ghost use Rattle.c_tree.specs.Syntax.{Part};
-ghost use Rattle.c_tree.specs.View.{part};
+ghost use Rattle.c_tree.specs.Item.{Item as PureItem};
+ghost use Rattle.c_tree.specs.View.{item_of};
 ghost use Rattle.c_resolve.specs.Entries.{indexed_at};
 ghost use Rattle.c_semantics.specs.Names.{Definition};
 ghost use Rattle.c_resolve.specs.Routines.{definitions_of, or_number, AreNumbersOf};
@@ -41,7 +41,10 @@ impl Numbers {
     /// Gives a name the number that comes next, unless it has one.
     fn give(&mut self, name: &Name) -> Result<(), OutOfMemory>
         ensures count { self.new.count ≡ self.old.count }
-        ensures numbers { OnOk result ((other : List ℕ) → indexed_at self.new.numbers other ≡ or_number (indexed_at self.old.numbers other) (if bytes_eq name.now other then Some self.old.count else None)) }
+        ensures numbers { OnOk result
+            ((other : List ℕ) → indexed_at self.new.numbers other
+            ≡ or_number (indexed_at self.old.numbers other)
+            (if bytes_eq name.now other then Some self.old.count else None)) }
     {
         if self.numbers.get(name.get()).is_some() {
             return Ok(());
@@ -55,7 +58,9 @@ impl Numbers {
 
     /// One definition more.
     fn add(&mut self, name: &Name) -> Result<(), OutOfMemory>
-        ensures { OnOk result ((ds : List Definition) → (d : Definition) → name.now ≡ d.function.name → AreNumbersOf self.old ds → AreNumbersOf self.new (ds ++ d ∷ [])) }
+        ensures { OnOk result ((ds : List Definition) → (d : Definition)
+            → name.now ≡ d.function.name → AreNumbersOf self.old ds
+            → AreNumbersOf self.new (ds ++ d ∷ [])) }
     {
         let Some(next) = self.count.checked_add(1) else {
             return Err(OutOfMemory);
@@ -67,7 +72,8 @@ impl Numbers {
 
     /// One item more.
     fn pass(&mut self, item: &Item) -> Result<(), OutOfMemory>
-        ensures { OnOk result ((ps : List Part) → AreNumbersOf self.old (definitions_of ps) → AreNumbersOf self.new (definitions_of (ps ++ part item.now ∷ []))) }
+        ensures { OnOk result ((ps : List PureItem) → AreNumbersOf self.old (definitions_of ps)
+            → AreNumbersOf self.new (definitions_of (ps ++ item_of item.now ∷ []))) }
     {
         match item {
             Item::Vars(_, _) => Ok(()),
@@ -81,7 +87,8 @@ impl Numbers {
 
 /// The numbers of the functions that items define.
 pub(super) fn number_all(alloc: Global, items: &[Item]) -> Result<Numbers, OutOfMemory>
-    ensures { IfOk result (λ numbers. AreNumbersOf numbers (definitions_of (map part items.now))) }
+    ensures { IfOk result (λ numbers. AreNumbersOf numbers
+        (definitions_of (map item_of items.now))) }
 {
     let mut numbers = Numbers::new(alloc);
     for item in items {

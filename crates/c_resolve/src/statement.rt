@@ -2,20 +2,22 @@
 
 ghost use Rattle.std.specs.Prelude.{◌≡◌, ◌++◌, ℕ, List, drop, length, map, option_map, IfOk, OnOk};
 ghost use Rattle.c_tree.specs.declared.place.Place.{Place as At};
-ghost use Rattle.c_tree.specs.Syntax.{Evaluated, Declared, Compound, Branch, Loop, LoopOnce, LoopFrom, Returned};
-ghost use Rattle.c_tree.specs.View.{expression, declarator, beginning, shape, statement, statements};
+ghost use Rattle.c_tree.specs.Stmt as stmt;
+ghost use Rattle.c_tree.specs.View.{expr_of, var_of, first_of, ty_of, stmt_of, stmts_of};
 ghost use Rattle.c_layout.specs.Frames.{body_locals};
-ghost use Rattle.c_resolve.specs.Acted.{IsKept, AreNames, IsActionOf};
-ghost use Rattle.c_resolve.specs.Actions.{action_run, beginning_run, body_run, branch, step_run, test_run, value_run};
+ghost use Rattle.c_resolve.specs.private.Acted.{IsKept, AreNames, IsActionOf};
+ghost use Rattle.c_resolve.specs.Actions.{action_run, first_run, body_run, if_run, step_run, test_run, value_run};
 ghost use Rattle.c_semantics.specs.Eval.{Calls};
 ghost use Rattle.c_semantics.specs.Exec.{begin, beginning_own, behind, block_locals, exec_all, named_beginning, named_behind, statement_locals, step as step_of, test as test_of, with_locals_named};
 ghost use Rattle.c_semantics.specs.Names.{Definition};
-ghost use Rattle.c_resolve.specs.Resolved.{names_in};
+ghost use Rattle.c_resolve.specs.private.Resolved.{names_in};
 
 use crate::action::{Action, Beginning};
-use crate::declaration::{begin_loop, has_init, own_count, pass_all, push_locals, push_own};
+use crate::declaration::{
+    first_count, has_init, push_first_locals, push_locals, resolve_first, resolve_vars,
+};
 use crate::expression::resolve;
-use crate::kinds::held;
+use crate::kinds::held_of;
 use crate::names::Names;
 use crate::node::Node;
 use crate::places::past;
@@ -39,37 +41,44 @@ pub(super) struct Body<'a> {
 }
 
 /// An expression whose value isn't used.
-fn evaluate(alloc: Global, e: &Expr, names: &Names) -> Result<Action, OutOfMemory>
-    ensures { IfOk result (λ action. (places : List ℕ) → (gives : CType) → (at : At) → IsActionOf names.now places (shape gives) action (Evaluated (expression e.now) at)) }
+fn resolve_expr_stmt(alloc: Global, e: &Expr, names: &Names) -> Result<Action, OutOfMemory>
+    ensures { IfOk result (λ action. (places : List ℕ) → (gives : CType) → (at : At)
+        → IsActionOf names.now places (ty_of gives) action (stmt.Expr (expr_of e.now) at)) }
 {
-    Ok(Action::Evaluate(resolve(alloc, e, names)?.node))
+    Ok(Action::Expr(resolve(alloc, e, names)?.node))
 }
 
 /// A declaration, whose names are then in scope.
-fn declare(
+fn resolve_vars_stmt(
     alloc: Global,
     vars: &[Var],
     places: &[u32],
     names: &mut Names,
 ) -> Result<Action, OutOfMemory>
-    ensures names { OnOk result (AreNames names.old names.new (with_locals_named places.now (map declarator vars.now))) }
+    ensures names { OnOk result
+        (AreNames names.old names.new (with_locals_named places.now (map var_of vars.now))) }
     ensures kept { OnOk result (IsKept names.old names.new) }
-    ensures means { IfOk result (λ action. (gives : CType) → (at : At) → IsActionOf names.old places.now (shape gives) action (Declared (map declarator vars.now) at)) }
+    ensures means { IfOk result
+        (λ action. (gives : CType) → (at : At)
+        → IsActionOf names.old places.now (ty_of gives) action
+        (stmt.Vars (map var_of vars.now) at)) }
 {
     let counted = has_init(vars);
-    Ok(Action::Declare(counted, pass_all(alloc, vars, places, names)?))
+    Ok(Action::Vars(counted, resolve_vars(alloc, vars, places, names)?))
 }
 
 /// A `return`, in a function that gives a type.
-fn give(
+fn resolve_return(
     alloc: Global,
     value: &Option<Expr>,
     gives: &CType,
     names: &Names,
 ) -> Result<Action, OutOfMemory>
-    ensures { IfOk result (λ action. (places : List ℕ) → (at : At) → IsActionOf names.now places (shape gives.now) action (Returned (option_map expression value.now) at)) }
+    ensures { IfOk result (λ action. (places : List ℕ) → (at : At)
+        → IsActionOf names.now places (ty_of gives.now) action
+        (stmt.Return (option_map expr_of value.now) at)) }
 {
-    let holds = held(gives);
+    let holds = held_of(gives);
     match value {
         None => Ok(Action::Return(holds, None)),
         Some(e) => Ok(Action::Return(holds, Some(resolve(alloc, e, names)?.node))),
@@ -77,11 +86,19 @@ fn give(
 }
 
 /// An expression that may be left out.
-fn optional(alloc: Global, e: &Option<Expr>, names: &Names) -> Result<Option<Node>, OutOfMemory>
-    ensures test { IfOk result (λ node. (definitions : List Definition) → (input : List ℕ) → (calls : Calls) →
-        test_run definitions input calls node ≡ test_of input calls (names_in definitions names.now) (option_map expression e.now)) }
-    ensures step { IfOk result (λ node. (definitions : List Definition) → (input : List ℕ) → (calls : Calls) →
-        step_run definitions input calls node ≡ step_of input calls (names_in definitions names.now) (option_map expression e.now)) }
+fn resolve_optional(
+    alloc: Global,
+    e: &Option<Expr>,
+    names: &Names,
+) -> Result<Option<Node>, OutOfMemory>
+    ensures test { IfOk result
+        (λ node. (definitions : List Definition) → (input : List ℕ) → (calls : Calls) →
+        test_run definitions input calls node
+        ≡ test_of input calls (names_in definitions names.now) (option_map expr_of e.now)) }
+    ensures step { IfOk result
+        (λ node. (definitions : List Definition) → (input : List ℕ) → (calls : Calls) →
+        step_run definitions input calls node
+        ≡ step_of input calls (names_in definitions names.now) (option_map expr_of e.now)) }
 {
     match e {
         None => Ok(None),
@@ -90,14 +107,15 @@ fn optional(alloc: Global, e: &Option<Expr>, names: &Names) -> Result<Option<Nod
 }
 
 /// A statement's own objects.
-#[tactic(auto, using(c_tree::proofs::Views::views))]
-fn push_statement(
+#[tactic(auto, using(c_tree::proofs::ViewLemmas::views))]
+fn push_stmt_locals(
     alloc: Global,
     s: &Stmt,
     places: &[u32],
     out: &mut Vec<Local>,
 ) -> Result<(), OutOfMemory>
-    ensures { OnOk result (out.new.items ≡ out.old.items ++ statement_locals places.now (statement s.now)) }
+    ensures { OnOk result (out.new.items
+        ≡ out.old.items ++ statement_locals places.now (stmt_of s.now)) }
 {
     match &s.kind {
         StmtKind::Empty => Ok(()),
@@ -126,7 +144,7 @@ struct Head {
 }
 
 /// The head of a `for`, whose names are then in scope.
-fn resolve_head(
+fn resolve_for_head(
     alloc: Global,
     first: &First,
     test: &Option<Expr>,
@@ -134,35 +152,52 @@ fn resolve_head(
     places: &[u32],
     names: &mut Names,
 ) -> Result<Head, OutOfMemory>
-    ensures names { OnOk result (AreNames names.old names.new (named_beginning places.now (beginning first.now))) }
+    ensures names { OnOk result
+        (AreNames names.old names.new (named_beginning places.now (first_of first.now))) }
     ensures kept { OnOk result (IsKept names.old names.new) }
-    ensures own { IfOk result (λ head. head.own.items ≡ beginning_own places.now (beginning first.now)) }
-    ensures begins { IfOk result (λ head. (definitions : List Definition) → (input : List ℕ) → (calls : Calls) →
-        beginning_run definitions input calls head.begins ≡ begin input calls (names_in definitions names.old) places.now (beginning first.now)) }
-    ensures test { IfOk result (λ head. (definitions : List Definition) → (input : List ℕ) → (calls : Calls) →
-        test_run definitions input calls head.test ≡ test_of input calls (names_in definitions names.new) (option_map expression test.now)) }
-    ensures step { IfOk result (λ head. (definitions : List Definition) → (input : List ℕ) → (calls : Calls) →
-        step_run definitions input calls head.step ≡ step_of input calls (names_in definitions names.new) (option_map expression step.now)) }
+    ensures own { IfOk result
+        (λ head. head.own.items ≡ beginning_own places.now (first_of first.now)) }
+    ensures begins { IfOk result
+        (λ head. (definitions : List Definition) → (input : List ℕ) → (calls : Calls) →
+        first_run definitions input calls head.begins
+        ≡ begin input calls (names_in definitions names.old) places.now (first_of first.now)) }
+    ensures test { IfOk result
+        (λ head. (definitions : List Definition) → (input : List ℕ) → (calls : Calls) →
+        test_run definitions input calls head.test
+        ≡ test_of input calls (names_in definitions names.new) (option_map expr_of test.now)) }
+    ensures step { IfOk result
+        (λ head. (definitions : List Definition) → (input : List ℕ) → (calls : Calls) →
+        step_run definitions input calls head.step
+        ≡ step_of input calls (names_in definitions names.new) (option_map expr_of step.now)) }
 {
     let mut own = Vec::new(alloc);
-    push_own(alloc, first, places, &mut own)?;
+    push_first_locals(alloc, first, places, &mut own)?;
     Ok(Head {
         own,
-        begins: begin_loop(alloc, first, places, names)?,
-        test: optional(alloc, test, names)?,
-        step: optional(alloc, step, names)?,
+        begins: resolve_first(alloc, first, places, names)?,
+        test: resolve_optional(alloc, test, names)?,
+        step: resolve_optional(alloc, step, names)?,
     })
 }
 
 /// An `if` with an `else`.
-#[tactic(auto, using(crate::proofs::Views::views))]
-fn fork(alloc: Global, test: Node, body: Action, other: Action) -> Result<Action, OutOfMemory>
-    ensures { IfOk result (λ action. (definitions : List Definition) → (input : List ℕ) → (calls : Calls) →
-        action_run definitions input calls action ≡ branch (value_run definitions input calls test) (action_run definitions input calls body) (action_run definitions input calls other)) }
+#[tactic(auto, using(crate::proofs::ActionViews::views))]
+fn build_if_else(
+    alloc: Global,
+    test: Node,
+    body: Action,
+    other: Action,
+) -> Result<Action, OutOfMemory>
+    ensures { IfOk result (λ action. (definitions : List Definition) → (input : List ℕ)
+        → (calls : Calls) →
+        action_run definitions input calls action
+        ≡ if_run (value_run definitions input calls test)
+        (action_run definitions input calls body)
+        (action_run definitions input calls other)) }
 {
     let body = Box::new(alloc, body)?;
     let other = Box::new(alloc, other)?;
-    Ok(Action::Fork(test, body, other))
+    Ok(Action::IfElse(test, body, other))
 }
 
 /// A statement whose names are out of scope behind it.
@@ -175,18 +210,19 @@ fn resolve_inner<'a>(
     names: &mut Names,
 ) -> Result<Acted<'a>, OutOfMemory>
     ensures same { OnOk result (names.new.entries.items ≡ names.old.entries.items) }
-    ensures rest { IfOk result (λ acted. acted.rest.now ≡ behind (statement s.now) places.now) }
-    ensures means { IfOk result (λ acted. IsActionOf names.old places.now (shape gives.now) acted.action (statement s.now)) }
+    ensures rest { IfOk result (λ acted. acted.rest.now ≡ behind (stmt_of s.now) places.now) }
+    ensures means { IfOk result
+        (λ acted. IsActionOf names.old places.now (ty_of gives.now) acted.action (stmt_of s.now)) }
 {
     let outer = names.len();
-    let acted = resolve_statement(alloc, s, places, gives, names)?;
+    let acted = resolve_stmt(alloc, s, places, gives, names)?;
     names.leave(outer);
     Ok(acted)
 }
 
 /// An `if` without an `else`.
 #[cycle(statement)]
-fn branch<'a>(
+fn resolve_if<'a>(
     alloc: Global,
     then: &Stmt,
     test: &Expr,
@@ -195,21 +231,23 @@ fn branch<'a>(
     names: &mut Names,
 ) -> Result<Acted<'a>, OutOfMemory>
     ensures same { OnOk result (names.new.entries.items ≡ names.old.entries.items) }
-    ensures rest { IfOk result (λ acted. acted.rest.now ≡ behind (statement then.now) places.now) }
-    ensures means { (at : At) → IfOk result (λ acted. IsActionOf names.old places.now (shape gives.now) acted.action (Branch (expression test.now) (statement then.now) at)) }
+    ensures rest { IfOk result (λ acted. acted.rest.now ≡ behind (stmt_of then.now) places.now) }
+    ensures means { (at : At)
+        → IfOk result (λ acted. IsActionOf names.old places.now (ty_of gives.now) acted.action
+        (stmt.If (expr_of test.now) (stmt_of then.now) at)) }
 {
     let test = resolve(alloc, test, names)?.node;
     let acted = resolve_inner(alloc, then, places, gives, names)?;
     let body = Box::new(alloc, acted.action)?;
     Ok(Acted {
-        action: Action::Branch(test, body),
+        action: Action::If(test, body),
         rest: acted.rest,
     })
 }
 
 /// A `while`.
 #[cycle(statement)]
-fn test_first<'a>(
+fn resolve_while<'a>(
     alloc: Global,
     body: &Stmt,
     test: &Expr,
@@ -218,8 +256,10 @@ fn test_first<'a>(
     names: &mut Names,
 ) -> Result<Acted<'a>, OutOfMemory>
     ensures same { OnOk result (names.new.entries.items ≡ names.old.entries.items) }
-    ensures rest { IfOk result (λ acted. acted.rest.now ≡ behind (statement body.now) places.now) }
-    ensures means { (at : At) → IfOk result (λ acted. IsActionOf names.old places.now (shape gives.now) acted.action (Loop (expression test.now) (statement body.now) at)) }
+    ensures rest { IfOk result (λ acted. acted.rest.now ≡ behind (stmt_of body.now) places.now) }
+    ensures means { (at : At)
+        → IfOk result (λ acted. IsActionOf names.old places.now (ty_of gives.now) acted.action
+        (stmt.While (expr_of test.now) (stmt_of body.now) at)) }
 {
     let test = resolve(alloc, test, names)?.node;
     let acted = resolve_inner(alloc, body, places, gives, names)?;
@@ -232,7 +272,7 @@ fn test_first<'a>(
 
 /// A `do`.
 #[cycle(statement)]
-fn test_last<'a>(
+fn resolve_do<'a>(
     alloc: Global,
     body: &Stmt,
     test: &Expr,
@@ -241,21 +281,23 @@ fn test_last<'a>(
     names: &mut Names,
 ) -> Result<Acted<'a>, OutOfMemory>
     ensures same { OnOk result (names.new.entries.items ≡ names.old.entries.items) }
-    ensures rest { IfOk result (λ acted. acted.rest.now ≡ behind (statement body.now) places.now) }
-    ensures means { (at : At) → IfOk result (λ acted. IsActionOf names.old places.now (shape gives.now) acted.action (LoopOnce (statement body.now) (expression test.now) at)) }
+    ensures rest { IfOk result (λ acted. acted.rest.now ≡ behind (stmt_of body.now) places.now) }
+    ensures means { (at : At)
+        → IfOk result (λ acted. IsActionOf names.old places.now (ty_of gives.now) acted.action
+        (stmt.Do (stmt_of body.now) (expr_of test.now) at)) }
 {
     let test = resolve(alloc, test, names)?.node;
     let acted = resolve_inner(alloc, body, places, gives, names)?;
     let body = Box::new(alloc, acted.action)?;
     Ok(Acted {
-        action: Action::DoWhile(body, test),
+        action: Action::Do(body, test),
         rest: acted.rest,
     })
 }
 
 /// A `for`, whose names are out of scope behind it.
 #[cycle(statement)]
-fn repeat<'a>(
+fn resolve_for<'a>(
     alloc: Global,
     first: &First,
     test: &Option<Expr>,
@@ -266,13 +308,19 @@ fn repeat<'a>(
     names: &mut Names,
 ) -> Result<Acted<'a>, OutOfMemory>
     ensures same { OnOk result (names.new.entries.items ≡ names.old.entries.items) }
-    ensures rest { (at : At) → IfOk result (λ acted. acted.rest.now ≡ behind (LoopFrom (beginning first.now) (option_map expression test.now) (option_map expression step.now) (statement body.now) at) places.now) }
-    ensures means { (at : At) → IfOk result (λ acted. IsActionOf names.old places.now (shape gives.now) acted.action (LoopFrom (beginning first.now) (option_map expression test.now) (option_map expression step.now) (statement body.now) at)) }
+    ensures rest { (at : At)
+        → IfOk result (λ acted. acted.rest.now
+        ≡ behind (stmt.For (first_of first.now) (option_map expr_of test.now)
+        (option_map expr_of step.now) (stmt_of body.now) at) places.now) }
+    ensures means { (at : At)
+        → IfOk result (λ acted. IsActionOf names.old places.now (ty_of gives.now) acted.action
+        (stmt.For (first_of first.now) (option_map expr_of test.now)
+        (option_map expr_of step.now) (stmt_of body.now) at)) }
 {
     let outer = names.len();
-    let head = resolve_head(alloc, first, test, step, places, names)?;
-    let inner = past(places, own_count(first));
-    let acted = resolve_statement(alloc, body, inner, gives, names)?;
+    let head = resolve_for_head(alloc, first, test, step, places, names)?;
+    let inner = past(places, first_count(first));
+    let acted = resolve_stmt(alloc, body, inner, gives, names)?;
     names.leave(outer);
     let body = Box::new(alloc, acted.action)?;
     Ok(Acted {
@@ -283,7 +331,7 @@ fn repeat<'a>(
 
 /// A block, whose names are out of scope behind it.
 #[cycle(statement)]
-fn block<'a>(
+fn resolve_block<'a>(
     alloc: Global,
     body: &[Stmt],
     places: &'a [u32],
@@ -291,8 +339,11 @@ fn block<'a>(
     names: &mut Names,
 ) -> Result<Acted<'a>, OutOfMemory>
     ensures same { OnOk result (names.new.entries.items ≡ names.old.entries.items) }
-    ensures rest { IfOk result (λ acted. acted.rest.now ≡ drop (length (body_locals (statements body.now))) places.now) }
-    ensures means { (at : At) → IfOk result (λ acted. IsActionOf names.old places.now (shape gives.now) acted.action (Compound (statements body.now) at)) }
+    ensures rest { IfOk result
+        (λ acted. acted.rest.now ≡ drop (length (body_locals (stmts_of body.now))) places.now) }
+    ensures means { (at : At)
+        → IfOk result (λ acted. IsActionOf names.old places.now (ty_of gives.now) acted.action
+        (stmt.Block (stmts_of body.now) at)) }
 {
     let outer = names.len();
     let body = resolve_body(alloc, body, places, gives, names)?;
@@ -305,57 +356,59 @@ fn block<'a>(
 
 /// A statement of a function that gives a type. The names that it declares are then in scope.
 #[cycle(statement)]
-#[tactic(auto, using(c_tree::proofs::Views::views))]
-fn resolve_statement<'a>(
+#[tactic(auto, using(c_tree::proofs::ViewLemmas::views))]
+fn resolve_stmt<'a>(
     alloc: Global,
     s: &Stmt,
     places: &'a [u32],
     gives: &CType,
     names: &mut Names,
 ) -> Result<Acted<'a>, OutOfMemory>
-    ensures names { OnOk result (AreNames names.old names.new (named_behind places.now (statement s.now))) }
+    ensures names { OnOk result
+        (AreNames names.old names.new (named_behind places.now (stmt_of s.now))) }
     ensures kept { OnOk result (IsKept names.old names.new) }
-    ensures rest { IfOk result (λ acted. acted.rest.now ≡ behind (statement s.now) places.now) }
-    ensures means { IfOk result (λ acted. IsActionOf names.old places.now (shape gives.now) acted.action (statement s.now)) }
+    ensures rest { IfOk result (λ acted. acted.rest.now ≡ behind (stmt_of s.now) places.now) }
+    ensures means { IfOk result
+        (λ acted. IsActionOf names.old places.now (ty_of gives.now) acted.action (stmt_of s.now)) }
 {
     let rest = places;
     match &s.kind {
         StmtKind::Empty => {
-            let action = Action::Nothing;
+            let action = Action::Empty;
             Ok(Acted { action, rest })
         }
         StmtKind::Expr(e) => {
-            let action = evaluate(alloc, e, names)?;
+            let action = resolve_expr_stmt(alloc, e, names)?;
             Ok(Acted { action, rest })
         }
         StmtKind::Vars(vars) => {
-            let action = declare(alloc, vars, places, names)?;
+            let action = resolve_vars_stmt(alloc, vars, places, names)?;
             let rest = past(places, vars.len());
             Ok(Acted { action, rest })
         }
-        StmtKind::Block(body) => block(alloc, body, places, gives, names),
+        StmtKind::Block(body) => resolve_block(alloc, body, places, gives, names),
         StmtKind::Marker(_) => {
-            let action = Action::Nothing;
+            let action = Action::Empty;
             Ok(Acted { action, rest })
         }
         StmtKind::If(test, then, other) => match other {
-            None => branch(alloc, then, test, places, gives, names),
+            None => resolve_if(alloc, then, test, places, gives, names),
             Some(other) => {
                 let test = resolve(alloc, test, names)?.node;
                 let yes = resolve_inner(alloc, then, places, gives, names)?;
                 let no = resolve_inner(alloc, other, yes.rest, gives, names)?;
-                let action = fork(alloc, test, yes.action, no.action)?;
+                let action = build_if_else(alloc, test, yes.action, no.action)?;
                 let rest = no.rest;
                 Ok(Acted { action, rest })
             }
         },
-        StmtKind::While(test, body) => test_first(alloc, body, test, places, gives, names),
-        StmtKind::Do(body, test) => test_last(alloc, body, test, places, gives, names),
+        StmtKind::While(test, body) => resolve_while(alloc, body, test, places, gives, names),
+        StmtKind::Do(body, test) => resolve_do(alloc, body, test, places, gives, names),
         StmtKind::For(first, test, step, body) => {
-            repeat(alloc, first, test, step, body, places, gives, names)
+            resolve_for(alloc, first, test, step, body, places, gives, names)
         }
         StmtKind::Return(value) => {
-            let action = give(alloc, value, gives, names)?;
+            let action = resolve_return(alloc, value, gives, names)?;
             Ok(Acted { action, rest })
         }
         StmtKind::Break => {
@@ -379,17 +432,22 @@ pub(super) fn resolve_body<'a>(
     names: &mut Names,
 ) -> Result<Body<'a>, OutOfMemory>
     ensures kept { OnOk result (IsKept names.old names.new) }
-    ensures rest { IfOk result (λ b. b.rest.now ≡ drop (length (body_locals (statements body.now))) places.now) }
-    ensures locals { IfOk result (λ b. b.locals.items ≡ block_locals places.now (statements body.now)) }
-    ensures means { IfOk result (λ b. (definitions : List Definition) → (input : List ℕ) → (calls : Calls) →
-        body_run definitions input calls b.actions.items ≡ exec_all input calls (shape gives.now) (names_in definitions names.old) places.now (statements body.now)) }
+    ensures rest { IfOk result
+        (λ b. b.rest.now ≡ drop (length (body_locals (stmts_of body.now))) places.now) }
+    ensures locals { IfOk result
+        (λ b. b.locals.items ≡ block_locals places.now (stmts_of body.now)) }
+    ensures means { IfOk result
+        (λ b. (definitions : List Definition) → (input : List ℕ) → (calls : Calls) →
+        body_run definitions input calls b.actions.items
+        ≡ exec_all input calls (ty_of gives.now) (names_in definitions names.old) places.now
+        (stmts_of body.now)) }
 {
     let mut locals = Vec::new(alloc);
     let mut actions = Vec::new(alloc);
     let mut rest = places;
     for s in body {
-        push_statement(alloc, s, rest, &mut locals)?;
-        let acted = resolve_statement(alloc, s, rest, gives, names)?;
+        push_stmt_locals(alloc, s, rest, &mut locals)?;
+        let acted = resolve_stmt(alloc, s, rest, gives, names)?;
         actions.push(acted.action)?;
         rest = acted.rest;
     }

@@ -1,22 +1,22 @@
 //! Whole texts.
 
 ghost use Rattle.std.specs.Prelude.{◌≡◌, ◌+◌, ◌++◌, [], ◌∷◌, ℕ, List, drop, length, map, IfOk, OnOk};
-ghost use Rattle.c_tree.specs.Syntax.{Part};
-ghost use Rattle.c_tree.specs.View.{declarator, function, part, parts, statements};
+ghost use Rattle.c_tree.specs.Item.{Item as PureItem};
+ghost use Rattle.c_tree.specs.View.{var_of, fun_of, item_of, items_of, stmts_of};
 ghost use Rattle.c_layout.specs.Frames.{Planned};
 ghost use Rattle.c_layout.specs.Laid.{plan};
-ghost use Rattle.c_layout.specs.Outcome.{plan_of};
-ghost use Rattle.c_resolve.specs.Acted.{AreNames};
+ghost use Rattle.c_layout.specs.LayoutAnswers.{plan_of};
+ghost use Rattle.c_resolve.specs.private.Acted.{AreNames};
 ghost use Rattle.c_resolve.specs.Actions.{routine_run};
 ghost use Rattle.c_resolve.specs.Entries.{numbered};
 ghost use Rattle.c_semantics.specs.Eval.{Calls};
 ghost use Rattle.c_semantics.specs.Meaning.{definition, main_name, names as known_names, names_of, with_function, with_globals};
 ghost use Rattle.c_semantics.specs.Names.{Definition};
-ghost use Rattle.c_resolve.specs.Resolved.{names_in};
+ghost use Rattle.c_resolve.specs.private.Resolved.{names_in};
 ghost use Rattle.c_resolve.specs.Routines.{definitions_of, definition_frame, definition_run, AreNumbersOf, AreRoutinesOf};
 
 use crate::declaration::declared_type;
-use crate::function::{MAIN, resolve_function};
+use crate::function::{MAIN, resolve_fun};
 use crate::named::Named;
 use crate::names::Names;
 use crate::numbers::{Numbers, number_all};
@@ -25,7 +25,7 @@ use crate::routine::Routine;
 use c_layout::Layout;
 use c_semantics::Home;
 use c_tree::{Fun, Item, OutOfMemory, Stmt, Tree, Var};
-use c_types::{parameter_types, pointed};
+use c_types::{parameter_types, pointer_to};
 use std::alloc::Global;
 
 /// The addresses of the globals, in order of declaration.
@@ -49,7 +49,8 @@ fn declare_global(
     places: &[u32],
     names: &mut Names,
 ) -> Result<(), OutOfMemory>
-    ensures { OnOk result (AreNames names.old names.new (with_globals places.now (declarator v.now ∷ []))) }
+    ensures { OnOk result (AreNames names.old names.new
+        (with_globals places.now (var_of v.now ∷ []))) }
 {
     match places.first() {
         None => Ok(()),
@@ -67,7 +68,8 @@ fn declare_globals(
     places: &[u32],
     names: &mut Names,
 ) -> Result<(), OutOfMemory>
-    ensures { OnOk result (AreNames names.old names.new (with_globals places.now (map declarator vars.now))) }
+    ensures { OnOk result (AreNames names.old names.new
+        (with_globals places.now (map var_of vars.now))) }
 {
     let mut rest = places;
     for v in vars {
@@ -78,16 +80,17 @@ fn declare_globals(
 }
 
 /// Declares a function, with the number of its definition.
-fn declare_function(
+fn declare_fun(
     alloc: Global,
     f: &Fun,
     numbers: &Numbers,
     names: &mut Names,
 ) -> Result<(), OutOfMemory>
-    ensures { OnOk result ((text : List Part) → AreNumbersOf numbers.now (definitions_of text) →
-        names_in (definitions_of text) names.new ≡ with_function text (function f.now) (names_in (definitions_of text) names.old)) }
+    ensures { OnOk result ((text : List PureItem) → AreNumbersOf numbers.now (definitions_of text) →
+        names_in (definitions_of text) names.new
+        ≡ with_function text (fun_of f.now) (names_in (definitions_of text) names.old)) }
 {
-    let gives = pointed(alloc, &f.base, f.stars)?;
+    let gives = pointer_to(alloc, &f.base, f.stars)?;
     let types = parameter_types(alloc, &f.params)?;
     let number = numbers.find(f.name.get());
     names.declare(&f.name, Named::Routine(gives, types, number))
@@ -101,8 +104,11 @@ fn declare_item<'a>(
     numbers: &Numbers,
     names: &mut Names,
 ) -> Result<&'a [u32], OutOfMemory>
-    ensures { IfOk result (λ rest. (text ps : List Part) → AreNumbersOf numbers.now (definitions_of text) →
-        names_of text rest.now ps (names_in (definitions_of text) names.new) ≡ names_of text places.now (part item.now ∷ ps) (names_in (definitions_of text) names.old)) }
+    ensures { IfOk result (λ rest. (text ps : List PureItem)
+        → AreNumbersOf numbers.now (definitions_of text) →
+        names_of text rest.now ps (names_in (definitions_of text) names.new)
+        ≡ names_of text places.now (item_of item.now ∷ ps)
+        (names_in (definitions_of text) names.old)) }
 {
     match item {
         Item::Vars(_, vars) => {
@@ -110,7 +116,7 @@ fn declare_item<'a>(
             Ok(past(places, vars.len()))
         }
         Item::Fun(f) => {
-            declare_function(alloc, f, numbers, names)?;
+            declare_fun(alloc, f, numbers, names)?;
             Ok(places)
         }
     }
@@ -118,8 +124,10 @@ fn declare_item<'a>(
 
 /// The names of a text, in a layout of it.
 fn text_names(alloc: Global, tree: &Tree, layout: &Layout) -> Result<Names, OutOfMemory>
-    requires { plan_of layout.now ≡ plan (parts tree.now) }
-    ensures { IfOk result (λ known. (input : List ℕ) → names_in (definitions_of (parts tree.now)) known ≡ known_names (parts tree.now) input) }
+    requires { plan_of layout.now ≡ plan (items_of tree.now) }
+    ensures { IfOk result (λ known. (input : List ℕ)
+        → names_in (definitions_of (items_of tree.now)) known
+        ≡ known_names (items_of tree.now) input) }
 {
     let numbers = number_all(alloc, &tree.items)?;
     let places = global_addresses(alloc, layout)?;
@@ -140,17 +148,24 @@ fn push_definition(
     names: &mut Names,
     out: &mut Vec<Routine>,
 ) -> Result<(), OutOfMemory>
-    requires { (rest : List Planned) × (drop (length out.old.items) (plan_of layout.now).frames ≡ definition_frame (record { function = function f.now; body = statements body.now }) ∷ rest) }
+    requires { (rest : List Planned)
+        × (drop (length out.old.items) (plan_of layout.now).frames
+        ≡ definition_frame (record { function = fun_of f.now; body = stmts_of body.now }) ∷ rest) }
     ensures same { OnOk result (names.new.entries.items ≡ names.old.entries.items) }
     ensures count { OnOk result (length out.new.items ≡ length out.old.items + 1) }
-    ensures means { OnOk result ((definitions : List Definition) → (text : List Part) → (input : List ℕ) → (calls : Calls) → names_in definitions names.old ≡ known_names text input →
-        map (routine_run definitions input calls) out.new.items ≡ map (routine_run definitions input calls) out.old.items ++ definition_run text input calls (record { function = function f.now; body = statements body.now }) ∷ []) }
+    ensures means { OnOk result
+        ((definitions : List Definition) → (text : List PureItem) → (input : List ℕ)
+        → (calls : Calls) → names_in definitions names.old ≡ known_names text input →
+        map (routine_run definitions input calls) out.new.items
+        ≡ map (routine_run definitions input calls) out.old.items
+        ++ definition_run text input calls
+        (record { function = fun_of f.now; body = stmts_of body.now }) ∷ []) }
 {
     let Ok(number) = u32::try_from(out.len()) else {
         return Err(OutOfMemory);
     };
     let frame = layout.frame(number);
-    out.push(resolve_function(alloc, f, body, frame, names)?)?;
+    out.push(resolve_fun(alloc, f, body, frame, names)?)?;
     Ok(())
 }
 
@@ -162,11 +177,19 @@ fn push_item(
     names: &mut Names,
     out: &mut Vec<Routine>,
 ) -> Result<(), OutOfMemory>
-    requires { (rest : List Planned) × (drop (length out.old.items) (plan_of layout.now).frames ≡ map definition_frame (definitions_of (part item.now ∷ [])) ++ rest) }
+    requires { (rest : List Planned)
+        × (drop (length out.old.items) (plan_of layout.now).frames
+        ≡ map definition_frame (definitions_of (item_of item.now ∷ [])) ++ rest) }
     ensures same { OnOk result (names.new.entries.items ≡ names.old.entries.items) }
-    ensures count { OnOk result (length out.new.items ≡ length out.old.items + length (definitions_of (part item.now ∷ []))) }
-    ensures means { OnOk result ((definitions : List Definition) → (text : List Part) → (input : List ℕ) → (calls : Calls) → names_in definitions names.old ≡ known_names text input →
-        map (routine_run definitions input calls) out.new.items ≡ map (routine_run definitions input calls) out.old.items ++ map (definition_run text input calls) (definitions_of (part item.now ∷ []))) }
+    ensures count { OnOk result
+        (length out.new.items ≡ length out.old.items + length
+        (definitions_of (item_of item.now ∷ []))) }
+    ensures means { OnOk result
+        ((definitions : List Definition) → (text : List PureItem) → (input : List ℕ)
+        → (calls : Calls) → names_in definitions names.old ≡ known_names text input →
+        map (routine_run definitions input calls) out.new.items
+        ≡ map (routine_run definitions input calls) out.old.items
+        ++ map (definition_run text input calls) (definitions_of (item_of item.now ∷ []))) }
 {
     match item {
         Item::Vars(_, _) => Ok(()),
@@ -183,8 +206,8 @@ pub fn resolve_text(
     tree: &Tree,
     layout: &Layout,
 ) -> Result<Vec<Routine>, OutOfMemory>
-    requires { plan_of layout.now ≡ plan (parts tree.now) }
-    ensures { IfOk result (λ routines. AreRoutinesOf (parts tree.now) routines.items) }
+    requires { plan_of layout.now ≡ plan (items_of tree.now) }
+    ensures { IfOk result (λ routines. AreRoutinesOf (items_of tree.now) routines.items) }
 {
     let mut names = text_names(alloc, tree, layout)?;
     let mut out = Vec::new(alloc);
@@ -196,7 +219,8 @@ pub fn resolve_text(
 
 /// The number of `main`.
 pub fn main_number(alloc: Global, tree: &Tree) -> Result<Option<u32>, OutOfMemory>
-    ensures { IfOk result (λ number. numbered (definitions_of (parts tree.now)) number ≡ definition (parts tree.now) main_name) }
+    ensures { IfOk result (λ number. numbered (definitions_of (items_of tree.now)) number
+        ≡ definition (items_of tree.now) main_name) }
 {
     let numbers = number_all(alloc, &tree.items)?;
     Ok(numbers.find(MAIN))

@@ -12,6 +12,7 @@ none_below : (y n : ℕ) (live : List Object) → are_along (pos y) (negsuc n) l
 none_below y n [] = refl
 none_below y n (o ∷ os) = ap (λ b. b || are_along (pos y) (negsuc n) os) (and_right (is_along (pos y) o) false refl) ∙ none_below y n os
 
-pub below_none : (y : ℕ) (z : ℤ) (live : List Object) → SFits w64 z → (FitsUnsignedBits 64 (to_z w64 (of_z w64 z)) → ⊥) → false ≡ are_along (pos y) z live
+pub below_none : (y : ℕ) (z : ℤ) (live : List Object) → SFits w64 z
+    → (FitsUnsignedBits 64 (to_z w64 (of_z w64 z)) → ⊥) → false ≡ are_along (pos y) z live
 below_none y (pos n) live fits h = absurd (h (subst (FitsUnsignedBits 64) (sym (to_z-of_z w64 (pos n) fits)) (omega (arith, fits.sfits))))
 below_none y (negsuc n) live fits h = sym (none_below y n live)

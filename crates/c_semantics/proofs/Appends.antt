@@ -22,13 +22,15 @@ Appends run = (store : Store) → IsBehind store.output (run store)
 pub appends_pure : {A : Type 0} (v : A) → Appends (pure v)
 appends_pure v store = record { grows = λ left. IsPrefix-refl store.output }
 
-pub end_appends : {A B : Type 0} (f : A → Run B) → ((v : A) → Appends (f v)) → (e : Ended A) → IsPrefix (put_out e) (put_out (then_run e f))
+pub end_appends : {A B : Type 0} (f : A → Run B) → ((v : A) → Appends (f v)) → (e : Ended A)
+    → IsPrefix (put_out e) (put_out (then_run e f))
 end_appends f h (Goes v store left) = (h v store).grows left
 end_appends f h (StackFull output) = IsPrefix-refl output
 end_appends f h (More output) = IsPrefix-refl output
 end_appends f h (Undef output act at) = IsPrefix-refl output
 
-pub appends_then : {A B : Type 0} {r : Run A} {f : A → Run B} → Appends r → ((v : A) → Appends (f v)) → Appends (r >>= f)
+pub appends_then : {A B : Type 0} {r : Run A} {f : A → Run B} → Appends r
+    → ((v : A) → Appends (f v)) → Appends (r >>= f)
 appends_then {r = r} {f = f} a h store = record {
   grows = λ left. IsPrefix-trans store.output (put_out (r store left)) (put_out ((r >>= f) store left)) ((a store).grows left) (end_appends f h (r store left));
 }

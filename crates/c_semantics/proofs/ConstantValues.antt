@@ -4,11 +4,18 @@ use Rattle.std.specs.Prelude.{◌&&◌, ◌||◌, ◌==◌, if◌then◌else◌,
 use Rattle.c_tree.specs.declared.breach.Breach.{Breach}
 use Rattle.c_tree.specs.declared.breach.Broken.TheVariants.{NotConstant, Twice, Mismatch}
 use Rattle.c_tree.specs.declared.place.Place.{Place}
-use Rattle.c_tree.specs.Syntax.{Shape, Expression, Variable, Numeral, Letter, EndOfFile, Prefix, Stepped, Converted, Infix, Choice, Stored, Element, Called, Expressions, NoMore, Next, Initialiser, OneValue, ManyValues, Declarator, Part, Globals, Routine}
+use Rattle.c_tree.specs.Ty.{Ty}
+use Rattle.c_tree.specs.Expr.{Expr, Exprs}
+use Rattle.c_tree.specs.Expr as expr
+use Rattle.c_tree.specs.Init.{Init}
+use Rattle.c_tree.specs.Init as initial
+use Rattle.c_tree.specs.Var.{Var}
+use Rattle.c_tree.specs.Item.{Item}
+use Rattle.c_tree.specs.Item as item
 use Rattle.c_tree.specs.Scope.{Scope}
 use Rattle.c_tree.specs.Shapes.{is_integer}
 use Rattle.c_tree.specs.Breach.{unless}
-use Rattle.c_tree.specs.Words.{converted}
+use Rattle.c_tree.specs.Arithmetic.{converted}
 use Rattle.c_tree.specs.Constant.{is_arithmetic, on_one, needs_second, chosen, value_of, is_ready, act_breaches, foreign_name, foreign, constant_breaches}
 use Rattle.c_tree.specs.Accepted.{part_breaches, parts_breaches, behind_part}
 use Rattle.c_tree.specs.Breaches.{breaches}
@@ -18,7 +25,7 @@ use Rattle.c_semantics.specs.Evaluated.{HaveValues, IsConstant, AreConstant}
 use Rattle.c_semantics.specs.Meaning.{global_declarators}
 
 -- what is no form of a constant is a breach
-not_foreign : (scope : Option Scope) (e : Expression) (at : Place) → foreign scope e at ≡ [] → ⊥
+not_foreign : (scope : Option Scope) (e : Expr) (at : Place) → foreign scope e at ≡ [] → ⊥
 not_foreign None e at h = never NotConstant at h
 not_foreign (Some scope) e at h = never NotConstant at (nil_right (breaches scope true e) _ h)
 
@@ -56,32 +63,32 @@ one_chosen : (b : Bool) (v w : Option ℕ) → ((if b then false else true) ≡ 
 one_chosen true v w h k = k refl
 one_chosen false v w h k = h refl
 
-choice_value : (c v w : Option ℕ) → is_some c ≡ true
+conditional_value : (c v w : Option ℕ) → is_some c ≡ true
     → (chosen false c true false ≡ true → is_some v ≡ true)
     → (chosen false c false true ≡ true → is_some w ≡ true) → is_some (chosen None c v w) ≡ true
-choice_value None v w s h k = cc
-choice_value (Some x) v w s h k = one_chosen (x == 0) v w h k
+conditional_value None v w s h k = cc
+conditional_value (Some x) v w s h k = one_chosen (x == 0) v w h k
 
-converted_value : (to : Shape) (v : Option ℕ) → is_some v ≡ true
+converted_value : (to : Ty) (v : Option ℕ) → is_some v ≡ true
     → is_some (on_one (λ x. Some (converted to x)) v) ≡ true
 converted_value to None s = cc
 converted_value to (Some x) s = refl
 
 module _ (scope : Option Scope) where
-  has_value : (live : Bool) (e : Expression) → constant_breaches scope live e ≡ [] → live ≡ true
+  has_value : (live : Bool) (e : Expr) → constant_breaches scope live e ≡ [] → live ≡ true
       → is_some (value_of e) ≡ true
-  has_value live (Numeral t n at) h l =
-      some_where (is_integer t) (Some n) (is_form (is_integer t) [] _ h (not_foreign scope (Numeral t n at) at)).0 refl
-  has_value live (Letter code at) h l = refl
-  has_value live (EndOfFile at) h l = refl
-  has_value live (Prefix op a at) h l =
-      let own = (is_form (is_arithmetic op) _ _ h (not_foreign scope (Prefix op a at) at)).1 in
+  has_value live (expr.Number t n at) h l =
+      some_where (is_integer t) (Some n) (is_form (is_integer t) [] _ h (not_foreign scope (expr.Number t n at) at)).0 refl
+  has_value live (expr.Character code at) h l = refl
+  has_value live (expr.Eof at) h l = refl
+  has_value live (expr.Unary op a at) h l =
+      let own = (is_form (is_arithmetic op) _ _ h (not_foreign scope (expr.Unary op a at) at)).1 in
       let act = nil_right (constant_breaches scope live a) _ own in
       act_value live (is_some (value_of a)) _ at act l (has_value live a (nil_left _ _ own) l)
-  has_value live (Converted to a at) h l =
-      let form = is_form (is_integer to) _ _ h (not_foreign scope (Converted to a at) at) in
+  has_value live (expr.Cast to a at) h l =
+      let form = is_form (is_integer to) _ _ h (not_foreign scope (expr.Cast to a at) at) in
       some_where (is_integer to) _ form.0 (converted_value to (value_of a) (has_value live a form.1 l))
-  has_value live (Infix op a b at) h l =
+  has_value live (expr.Binary op a b at) h l =
       let second = needs_second op (value_of a) in
       let two = nil_right (constant_breaches scope live a) _ h in
       let here = nil_left (constant_breaches scope (live && second) b) _ two in
@@ -89,8 +96,8 @@ module _ (scope : Option Scope) where
       has_value (live && second) b here (and_true live second l s) in
       let ready = are_ready second (is_some (value_of a)) (is_some (value_of b)) (has_value live a (nil_left _ _ h) l) later in
       let own = nil_right (constant_breaches scope (live && second) b) _ two in
-      act_value live (is_ready op (value_of a) (value_of b)) (value_of (Infix op a b at)) at own l ready
-  has_value live (Choice c a b at) h l =
+      act_value live (is_ready op (value_of a) (value_of b)) (value_of (expr.Binary op a b at)) at own l ready
+  has_value live (expr.Conditional c a b at) h l =
       let first = chosen false (value_of c) true false in
       let other = chosen false (value_of c) false true in
       let left = constant_breaches scope (live && first) a in
@@ -98,30 +105,30 @@ module _ (scope : Option Scope) where
       let two = nil_right (constant_breaches scope live c) (left ++ right) h in
       let three = nil_right left right two in
       let test = nil_left (constant_breaches scope live c) (left ++ right) h in
-      choice_value (value_of c) (value_of a) (value_of b) (has_value live c test l)
+      conditional_value (value_of c) (value_of a) (value_of b) (has_value live c test l)
       (λ s. has_value (live && first) a (nil_left left right two) (and_true live first l s))
       (λ s. has_value (live && other) b three (and_true live other l s))
-  has_value live (Variable name at) h l = absurd (not_named scope name at h)
-  has_value live (Stepped how a at) h l = absurd (not_foreign scope (Stepped how a at) at h)
-  has_value live (Stored how a b at) h l = absurd (not_foreign scope (Stored how a b at) at h)
-  has_value live (Element a b at) h l = absurd (not_foreign scope (Element a b at) at h)
-  has_value live (Called name all at) h l = absurd (not_foreign scope (Called name all at) at h)
+  has_value live (expr.Name name at) h l = absurd (not_named scope name at h)
+  has_value live (expr.Step how a at) h l = absurd (not_foreign scope (expr.Step how a at) at h)
+  has_value live (expr.Assign how a b at) h l = absurd (not_foreign scope (expr.Assign how a b at) at h)
+  has_value live (expr.Index a b at) h l = absurd (not_foreign scope (expr.Index a b at) at h)
+  has_value live (expr.Call name all at) h l = absurd (not_foreign scope (expr.Call name all at) at h)
 
-pub have_values : (scope : Scope) (es : Expressions) → constants_breaches scope es ≡ []
+pub have_values : (scope : Scope) (es : Exprs) → constants_breaches scope es ≡ []
     → HaveValues es
-have_values scope NoMore h = tt
-have_values scope (Next e rest) h =
+have_values scope expr.NoMore h = tt
+have_values scope (expr.More e rest) h =
     (has_value (Some scope) true e (nil_left _ _ h) refl, have_values scope rest (nil_right (constant_breaches (Some scope) true e) _ h))
 
 -- what globals are initialised with
 
-is_constant : (scope : Scope) (d : Declarator) (init : Option Initialiser)
+is_constant : (scope : Scope) (d : Var) (init : Option Init)
     → global_init_breaches scope d init ≡ [] → IfSome init IsConstant
 is_constant scope d None h = tt
-is_constant scope d (Some (OneValue e)) h = has_value (Some scope) true e (nil_left _ _ h) refl
-is_constant scope d (Some (ManyValues es)) h = have_values scope es (nil_left _ _ h)
+is_constant scope d (Some (initial.One e)) h = has_value (Some scope) true e (nil_left _ _ h) refl
+is_constant scope d (Some (initial.Many es)) h = have_values scope es (nil_left _ _ h)
 
-are_constant : (ds others : List Declarator) (scope : Scope)
+are_constant : (ds others : List Var) (scope : Scope)
     → declarators_breaches true scope ds ≡ [] → AreConstant others → AreConstant (ds ++ others)
 are_constant [] others scope h rest = rest
 are_constant (d ∷ ds) others scope h rest =
@@ -134,14 +141,14 @@ are_constant (d ∷ ds) others scope h rest =
       are_constant ds others (with_declarator d scope) (nil_right (declarator_breaches true scope d) _ h) rest,
     )
 
-pub globals_constant : (text ps before : List Part) (scope : Scope)
+pub globals_constant : (text ps before : List Item) (scope : Scope)
     → parts_breaches text before scope ps ≡ [] → AreConstant (global_declarators ps)
 globals_constant text [] before scope h = tt
 globals_constant text (p ∷ ps) before scope h =
     let rest = globals_constant text ps (before ++ p ∷ []) (behind_part text p scope) (nil_right (part_breaches text before scope p) _ h) in
     of_part p (nil_left _ _ h) rest
   where
-    of_part : (p : Part) → part_breaches text before scope p ≡ []
+    of_part : (p : Item) → part_breaches text before scope p ≡ []
         → AreConstant (global_declarators ps) → AreConstant (global_declarators (p ∷ ps))
-    of_part (Globals keep ds) own rest = are_constant ds (global_declarators ps) scope own rest
-    of_part (Routine f) own rest = rest
+    of_part (item.Vars keep ds) own rest = are_constant ds (global_declarators ps) scope own rest
+    of_part (item.Fun f) own rest = rest

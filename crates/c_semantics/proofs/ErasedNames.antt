@@ -3,13 +3,17 @@ use Rattle.std.proofs.Common.{◌≡◌, ℕ, List, [], ◌∷◌, drop, Bool, t
 use Rattle.std.specs.Prelude.{option_map, bytes_eq, if◌then◌else◌}
 use Rattle.c_tree.specs.Declarators.{declared_shape, parameter_shape}
 use Rattle.c_tree.specs.Erase.{erased, erased_all}
-use Rattle.c_tree.specs.Syntax.{Shape, Declarator, Parameter, Function, Statement, Nothing, Evaluated, Declared, Compound, Marked, Branch, Fork, Loop, LoopOnce, LoopFrom, Returned, BreakOut, GoOn}
+use Rattle.c_tree.specs.Ty.{Ty}
+use Rattle.c_tree.specs.Var.{Var}
+use Rattle.c_tree.specs.Stmt.{Stmt}
+use Rattle.c_tree.specs.Stmt as stmt
+use Rattle.c_tree.specs.Fun.{Param, Fun}
 use Rattle.c_semantics.specs.declared.home.Home.TheVariants.{Fixed, InFrame}
 use Rattle.c_semantics.specs.Names.{Definition, Named, Variable, Routine, Names, with_name, known, types, home_of, definition_of}
 use Rattle.c_semantics.specs.Exec.{with_local, with_locals_named, named_behind}
 use Rattle.c_semantics.specs.Meaning.{with_global, with_globals, with_parameter, with_parameters}
 
-abbrev pub erased_function : Function → Function
+abbrev pub erased_function : Fun → Fun
 erased_function f = record f { body = option_map erased_all f.body }
 
 abbrev pub erased_definition : Definition → Definition
@@ -35,57 +39,73 @@ same_home None = refl
 same_home (Some (Variable shape home)) = refl
 same_home (Some (Routine result parameters definition)) = refl
 
-pub erased_definition_of : (o : Option Named) → definition_of (option_map erased_named o) ≡ option_map erased_definition (definition_of o)
+pub erased_definition_of : (o : Option Named)
+    → definition_of (option_map erased_named o) ≡ option_map erased_definition (definition_of o)
 erased_definition_of None = refl
 erased_definition_of (Some (Variable shape home)) = refl
 erased_definition_of (Some (Routine result parameters definition)) = refl
 
 -- A name more, before or after.
 
-erased_where : (b : Bool) (named : Named) (o : Option Named) → (if b then Some (erased_named named) else option_map erased_named o) ≡ option_map erased_named (if b then Some named else o)
+erased_where : (b : Bool) (named : Named) (o : Option Named)
+    → (if b then Some (erased_named named) else option_map erased_named o)
+    ≡ option_map erased_named (if b then Some named else o)
 erased_where true named o = refl
 erased_where false named o = refl
 
-pub erased_with : (name : List ℕ) (named : Named) (names : Names) → with_name name (erased_named named) (erased_names names) ≡ erased_names (with_name name named names)
+pub erased_with : (name : List ℕ) (named : Named) (names : Names)
+    → with_name name (erased_named named) (erased_names names)
+    ≡ erased_names (with_name name named names)
 erased_with name named names = λ i other. erased_where (bytes_eq name other) named (names other) i
 
-pub erased_local : (places : List ℕ) (d : Declarator) (names : Names) → with_local places d (erased_names names) ≡ erased_names (with_local places d names)
+pub erased_local : (places : List ℕ) (d : Var) (names : Names)
+    → with_local places d (erased_names names) ≡ erased_names (with_local places d names)
 erased_local [] d names = refl
 erased_local (place ∷ places) d names = erased_with d.name (Variable (declared_shape d) (InFrame place)) names
 
-pub erased_locals : (places : List ℕ) (ds : List Declarator) (names : Names) → with_locals_named places ds (erased_names names) ≡ erased_names (with_locals_named places ds names)
+pub erased_locals : (places : List ℕ) (ds : List Var) (names : Names)
+    → with_locals_named places ds (erased_names names)
+    ≡ erased_names (with_locals_named places ds names)
 erased_locals places [] names = refl
 erased_locals places (d ∷ ds) names = ap (with_locals_named (drop 1 places) ds) (erased_local places d names) ∙ erased_locals (drop 1 places) ds (with_local places d names)
 
-pub erased_behind : (places : List ℕ) (s : Statement) (names : Names) → named_behind places (erased s) (erased_names names) ≡ erased_names (named_behind places s names)
-erased_behind places (Nothing at) names = refl
-erased_behind places (Evaluated e at) names = refl
-erased_behind places (Declared ds at) names = erased_locals places ds names
-erased_behind places (Compound body at) names = refl
-erased_behind places (Marked m at) names = refl
-erased_behind places (Branch c s at) names = refl
-erased_behind places (Fork c s other at) names = refl
-erased_behind places (Loop c s at) names = refl
-erased_behind places (LoopOnce s c at) names = refl
-erased_behind places (LoopFrom f c d s at) names = refl
-erased_behind places (Returned value at) names = refl
-erased_behind places (BreakOut at) names = refl
-erased_behind places (GoOn at) names = refl
+pub erased_behind : (places : List ℕ) (s : Stmt) (names : Names)
+    → named_behind places (erased s) (erased_names names)
+    ≡ erased_names (named_behind places s names)
+erased_behind places (stmt.Empty at) names = refl
+erased_behind places (stmt.Expr e at) names = refl
+erased_behind places (stmt.Vars ds at) names = erased_locals places ds names
+erased_behind places (stmt.Block body at) names = refl
+erased_behind places (stmt.Marker m at) names = refl
+erased_behind places (stmt.If c s at) names = refl
+erased_behind places (stmt.IfElse c s other at) names = refl
+erased_behind places (stmt.While c s at) names = refl
+erased_behind places (stmt.Do s c at) names = refl
+erased_behind places (stmt.For f c d s at) names = refl
+erased_behind places (stmt.Return value at) names = refl
+erased_behind places (stmt.Break at) names = refl
+erased_behind places (stmt.Continue at) names = refl
 
-erased_global : (places : List ℕ) (d : Declarator) (names : Names) → with_global places d (erased_names names) ≡ erased_names (with_global places d names)
+erased_global : (places : List ℕ) (d : Var) (names : Names)
+    → with_global places d (erased_names names) ≡ erased_names (with_global places d names)
 erased_global [] d names = refl
 erased_global (address ∷ rest) d names = erased_with d.name (Variable (declared_shape d) (Fixed address)) names
 
-pub erased_globals : (places : List ℕ) (ds : List Declarator) (names : Names) → with_globals places ds (erased_names names) ≡ erased_names (with_globals places ds names)
+pub erased_globals : (places : List ℕ) (ds : List Var) (names : Names)
+    → with_globals places ds (erased_names names) ≡ erased_names (with_globals places ds names)
 erased_globals places [] names = refl
 erased_globals places (d ∷ ds) names = ap (with_globals (drop 1 places) ds) (erased_global places d names) ∙ erased_globals (drop 1 places) ds (with_global places d names)
 
-erased_parameter : (places : List ℕ) (t : Shape) (name : Option (List ℕ)) (names : Names) → with_parameter places t name (erased_names names) ≡ erased_names (with_parameter places t name names)
+erased_parameter : (places : List ℕ) (t : Ty) (name : Option (List ℕ)) (names : Names)
+    → with_parameter places t name (erased_names names)
+    ≡ erased_names (with_parameter places t name names)
 erased_parameter [] t name names = refl
 erased_parameter (place ∷ places) t None names = refl
 erased_parameter (place ∷ places) t (Some name) names = erased_with name (Variable t (InFrame place)) names
 
-pub erased_parameters : (places : List ℕ) (ps : List Parameter) (names : Names) → with_parameters places ps (erased_names names) ≡ erased_names (with_parameters places ps names)
+pub erased_parameters : (places : List ℕ) (ps : List Param) (names : Names)
+    → with_parameters places ps (erased_names names)
+    ≡ erased_names (with_parameters places ps names)
 erased_parameters places [] names = refl
 erased_parameters places (p ∷ ps) names =
     ap (with_parameters (drop 1 places) ps) (erased_parameter places (parameter_shape p) p.name names)

@@ -3,7 +3,15 @@ use Rattle.std.proofs.Common.{◌≡◌, ℕ, suc, ◌≤◌, length, drop, Bool
 use Rattle.std.specs.Prelude.{◌≢◌, IfSome}
 use Rattle.c_tree.specs.declared.breach.Broken.TheVariants.{Twice, Mismatch}
 use Rattle.c_tree.specs.declared.place.Place.{Place}
-use Rattle.c_tree.specs.Syntax.{Shape, Expression, Initialiser, OneValue, ManyValues, Declarator, Beginning, NoBeginning, DeclaredFirst, EvaluatedFirst, Statement, Nothing, Evaluated, Declared, Compound, Marked, Branch, Fork, Loop, LoopOnce, LoopFrom, Returned, BreakOut, GoOn, Statements, NoStatement, Then}
+use Rattle.c_tree.specs.Ty.{Ty}
+use Rattle.c_tree.specs.Expr.{Expr}
+use Rattle.c_tree.specs.Init.{Init}
+use Rattle.c_tree.specs.Init as initial
+use Rattle.c_tree.specs.Var.{Var}
+use Rattle.c_tree.specs.First.{First}
+use Rattle.c_tree.specs.First as for_first
+use Rattle.c_tree.specs.Stmt.{Stmt, Stmts}
+use Rattle.c_tree.specs.Stmt as stmt
 use Rattle.c_tree.specs.Scope.{Scope, entered}
 use Rattle.c_tree.specs.Shapes.{is_void}
 use Rattle.c_tree.specs.Breach.{unless}
@@ -30,13 +38,13 @@ has_place n (place ∷ places) le = tt
 pub fewer : (n : ℕ) (places : List ℕ) → suc n ≤ length places → n ≤ length (drop 1 places)
 fewer n places le = omega (arith, length-drop 1 places)
 
-same_local : {scope : Scope} {names : Names} (places : List ℕ) (d : Declarator) → HasPlace places
+same_local : {scope : Scope} {names : Names} (places : List ℕ) (d : Var) → HasPlace places
     → SameNames scope names
     → SameNames (with_declarator d scope) (with_local places d names)
 same_local [] d p s = absurd p
 same_local (place ∷ places) d p s = same_with d.name (declared_shape d) (InFrame place) (frame_is_somewhere place) s
 
-same_locals : (places : List ℕ) (ds : List Declarator) {scope : Scope} {names : Names}
+same_locals : (places : List ℕ) (ds : List Var) {scope : Scope} {names : Names}
     → length ds ≤ length places → SameNames scope names
     → SameNames (with_declarators ds scope) (with_locals_named places ds names)
 same_locals places [] le s = s
@@ -44,13 +52,13 @@ same_locals places (d ∷ ds) le s =
     same_locals (drop 1 places) ds (fewer (length ds) places le) (same_local places d (has_place (length ds) places le) s)
 
 initialisable : (scope : Scope) (names : Names) → SameNames scope names
-    → (d : Declarator) (init : Option Initialiser)
+    → (d : Var) (init : Option Init)
     → local_init_breaches scope d init ≡ [] → IfSome init (IsInitialisable names)
 initialisable scope names s d None h = tt
-initialisable scope names s d (Some (OneValue e)) h = evaluable scope names s e (nil_left _ _ h)
-initialisable scope names s d (Some (ManyValues es)) h = never Mismatch d.place (nil_right (breaches_in scope es) _ h)
+initialisable scope names s d (Some (initial.One e)) h = evaluable scope names s e (nil_left _ _ h)
+initialisable scope names s d (Some (initial.Many es)) h = never Mismatch d.place (nil_right (breaches_in scope es) _ h)
 
-declarable : (scope : Scope) (names : Names) (places : List ℕ) (ds : List Declarator)
+declarable : (scope : Scope) (names : Names) (places : List ℕ) (ds : List Var)
     → SameNames scope names → length ds ≤ length places
     → declarators_breaches false scope ds ≡ [] → AreDeclarable names places ds
 declarable scope names places [] s le h = tt
@@ -69,82 +77,82 @@ declarable scope names places (d ∷ ds) s le h =
     )
 
 module _ (scope : Scope) (names : Names) (s : SameNames scope names) where
-  testable : (c : Expression) (at : Place) → test_breaches scope c at ≡ [] → IsEvaluable names c
+  testable : (c : Expr) (at : Place) → test_breaches scope c at ≡ [] → IsEvaluable names c
   testable c at h = evaluable scope names s c (nil_left _ _ h)
 
-  optionally_testable : (c : Option Expression) (at : Place)
+  optionally_testable : (c : Option Expr) (at : Place)
       → optional_test_breaches scope c at ≡ [] → IfSome c (IsEvaluable names)
   optionally_testable None at h = tt
   optionally_testable (Some c) at h = testable c at h
 
-  stepable : (d : Option Expression) → unused_breaches scope d ≡ []
+  stepable : (d : Option Expr) → unused_breaches scope d ≡ []
       → IfSome d (IsEvaluableUnused names)
   stepable None h = tt
   stepable (Some d) h = evaluable_unused scope names s d h
 
-  returnable : (result : Shape) (value : Option Expression) (at : Place)
+  returnable : (result : Ty) (value : Option Expr) (at : Place)
       → return_breaches scope result value at ≡ [] → IsReturnable names result value
   returnable result None at h = holds (is_void result) Mismatch at h
   returnable result (Some e) at h =
       let own = holds _ Mismatch at (nil_right (breaches scope true e) _ h) in
       (is_false (is_void result) (left_true (not (is_void result)) _ own), evaluable scope names s e (nil_left _ _ h))
 
-  beginnable : (places : List ℕ) (f : Beginning) → length (beginning_locals f) ≤ length places
+  beginnable : (places : List ℕ) (f : First) → length (beginning_locals f) ≤ length places
       → beginning_breaches scope f ≡ [] → IsBeginnable names places f
-  beginnable places NoBeginning le h = tt
-  beginnable places (DeclaredFirst ds) le h = declarable scope names places ds s le h
-  beginnable places (EvaluatedFirst e) le h = evaluable_unused scope names s e h
+  beginnable places for_first.Nothing le h = tt
+  beginnable places (for_first.Vars ds) le h = declarable scope names places ds s le h
+  beginnable places (for_first.Expr e) le h = evaluable_unused scope names s e h
 
-  same_beginning : (places : List ℕ) (f : Beginning) → length (beginning_locals f) ≤ length places
+  same_beginning : (places : List ℕ) (f : First) → length (beginning_locals f) ≤ length places
       → SameNames (behind_beginning f scope) (named_beginning places f names)
-  same_beginning places NoBeginning le = s
-  same_beginning places (DeclaredFirst ds) le = same_locals places ds le s
-  same_beginning places (EvaluatedFirst e) le = s
+  same_beginning places for_first.Nothing le = s
+  same_beginning places (for_first.Vars ds) le = same_locals places ds le s
+  same_beginning places (for_first.Expr e) le = s
 
-  same_behind : (places : List ℕ) (t : Statement) → length (locals t) ≤ length places
+  same_behind : (places : List ℕ) (t : Stmt) → length (locals t) ≤ length places
       → SameNames (scope_behind t scope) (named_behind places t names)
-  same_behind places (Declared ds at) le = same_locals places ds le s
+  same_behind places (stmt.Vars ds at) le = same_locals places ds le s
   same_behind places t le = s
 
 -- the places behind the first of two lists
-places_behind : (first rest : List Declarator) (places : List ℕ)
+places_behind : (first rest : List Var) (places : List ℕ)
     → length (first ++ rest) ≤ length places → length rest ≤ length (drop (length first) places)
 places_behind first rest places le = omega (arith, length-append first rest, length-drop (length first) places)
 
-places_before : (first rest : List Declarator) (places : List ℕ)
+places_before : (first rest : List Var) (places : List ℕ)
     → length (first ++ rest) ≤ length places → length first ≤ length places
 places_before first rest places le = omega (arith, length-append first rest)
 
-module _ (result : Shape) where
+module _ (result : Ty) where
   mutual
-    executable : (loop : Bool) (t : Statement) (scope : Scope) (names : Names) (places : List ℕ)
+    executable : (loop : Bool) (t : Stmt) (scope : Scope) (names : Names) (places : List ℕ)
         → SameNames scope names → length (locals t) ≤ length places
         → statement_breaches result loop t scope ≡ [] → IsExecutable result names places t
-    executable loop (Nothing at) scope names places s le h = tt
-    executable loop (Evaluated e at) scope names places s le h = evaluable_unused scope names s e h
-    executable loop (Declared ds at) scope names places s le h = declarable scope names places ds s le h
-    executable loop (Compound body at) scope names places s le h = all_executable loop body (entered scope) names places (same_entered s) le h
-    executable loop (Marked m at) scope names places s le h = tt
-    executable loop (Branch c t at) scope names places s le h = (
+    executable loop (stmt.Empty at) scope names places s le h = tt
+    executable loop (stmt.Expr e at) scope names places s le h = evaluable_unused scope names s e h
+    executable loop (stmt.Vars ds at) scope names places s le h = declarable scope names places ds s le h
+    executable loop (stmt.Block body at) scope names places s le h = all_executable loop body (entered scope) names places (same_entered s) le h
+    executable loop (stmt.Marker m at) scope names places s le h = tt
+    executable loop (stmt.If c t at) scope names places s le h = (
       testable scope names s c at (nil_left _ _ h),
       executable loop t (entered scope) names places (same_entered s) le (nil_right (test_breaches scope c at) _ h),
     )
-    executable loop (Fork c t other at) scope names places s le h =
+    executable loop (stmt.IfElse c t other at) scope names places s le h =
         let two = nil_right (test_breaches scope c at) _ h in
         let three = nil_right (statement_breaches result loop t (entered scope)) _ two in (
           testable scope names s c at (nil_left _ _ h),
           executable loop t (entered scope) names places (same_entered s) (places_before (locals t) (locals other) places le) (nil_left _ _ two),
           executable loop other (entered scope) names (behind t places) (same_entered s) (places_behind (locals t) (locals other) places le) three,
         )
-    executable loop (Loop c t at) scope names places s le h = (
+    executable loop (stmt.While c t at) scope names places s le h = (
       testable scope names s c at (nil_left _ _ h),
       executable true t (entered scope) names places (same_entered s) le (nil_right (test_breaches scope c at) _ h),
     )
-    executable loop (LoopOnce t c at) scope names places s le h = (
+    executable loop (stmt.Do t c at) scope names places s le h = (
       executable true t (entered scope) names places (same_entered s) le (nil_left _ _ h),
       testable scope names s c at (nil_right (statement_breaches result true t (entered scope)) _ h),
     )
-    executable loop (LoopFrom f c d t at) scope names places s le h =
+    executable loop (stmt.For f c d t at) scope names places s le h =
         let own = places_before (beginning_locals f) (locals t) places le in
         let later = places_behind (beginning_locals f) (locals t) places le in
         let outer = entered scope in
@@ -159,15 +167,16 @@ module _ (result : Shape) where
           executable true t (entered inside) inner (drop (length (beginning_locals f)) places) (same_entered same) later
               (nil_right (unused_breaches inside d) _ three),
         )
-    executable loop (Returned value at) scope names places s le h = returnable scope names s result value at h
-    executable loop (BreakOut at) scope names places s le h = tt
-    executable loop (GoOn at) scope names places s le h = tt
+    executable loop (stmt.Return value at) scope names places s le h = returnable scope names s result value at h
+    executable loop (stmt.Break at) scope names places s le h = tt
+    executable loop (stmt.Continue at) scope names places s le h = tt
 
-    pub all_executable : (loop : Bool) (body : Statements) (scope : Scope) (names : Names) (places : List ℕ)
+    pub all_executable : (loop : Bool) (body : Stmts) (scope : Scope) (names : Names)
+        (places : List ℕ)
         → SameNames scope names → length (body_locals body) ≤ length places
         → body_breaches result loop body scope ≡ [] → AreExecutable result names places body
-    all_executable loop NoStatement scope names places s le h = tt
-    all_executable loop (Then t rest) scope names places s le h =
+    all_executable loop stmt.NoMore scope names places s le h = tt
+    all_executable loop (stmt.More t rest) scope names places s le h =
         let own = places_before (locals t) (body_locals rest) places le in
         let later = places_behind (locals t) (body_locals rest) places le in (
           executable loop t scope names places s own (nil_left _ _ h),

@@ -2,7 +2,13 @@
 use Rattle.std.proofs.Common.{◌≡◌, ℕ, ◌≤◌, length, drop, Bool, true, false, List, [], ◌∷◌, ◌++◌, Option, Some, None, is_some, refl, ap, ap₂, sym, ◌∙◌, inl, inr, arith, length-append, length-drop}
 use Rattle.std.specs.Prelude.{◌&&◌, ◌||◌, ◌⊎◌, bytes_eq, if◌then◌else◌}
 use Rattle.std.proofs.lemmas.List.{length-map}
-use Rattle.c_tree.specs.Syntax.{Shape, IntShape, Declarator, Parameter, Function, Part, Globals, Routine, Statements}
+use Rattle.c_tree.specs.Ty.{Ty}
+use Rattle.c_tree.specs.Ty as ty
+use Rattle.c_tree.specs.Var.{Var}
+use Rattle.c_tree.specs.Stmt.{Stmts}
+use Rattle.c_tree.specs.Fun.{Param, Fun}
+use Rattle.c_tree.specs.Item.{Item}
+use Rattle.c_tree.specs.Item as item
 use Rattle.c_tree.specs.Scope.{Known, ObjectOf, FunctionOf, Scope}
 use Rattle.c_tree.specs.Shapes.{same}
 use Rattle.c_tree.specs.Accepted.{result_shape, parameter_shapes, is_defined, with_function, part_breaches, parts_breaches, has_no_parameter, is_main, has_main}
@@ -17,7 +23,7 @@ use Rattle.c_semantics.proofs.SameNames.{IsVariable}
 use Rattle.c_semantics.proofs.ExecutedLemmas.{has_place, fewer}
 use Rattle.c_semantics.proofs.FileScope.{same_bytes, known_function, behind_parts, stays_known, IsFlagged}
 
-module _ (text : List Part) where
+module _ (text : List Item) where
   -- what the checker knows of a name at file scope, and what the name stands for
   abbrev pub StandsInFile : List ℕ → Option Known → Option Named → Type 0
   StandsInFile name None named = Unit {0}
@@ -28,14 +34,15 @@ module _ (text : List Part) where
     pub alone : scope.outer ≡ []
     pub stands : (name : List ℕ) → StandsInFile name (scope.inner name) (names name)
 
-  hidden : (b : Bool) (name : List ℕ) (k : Known) (n : Named) (inner : Option Known) (named : Option Named)
+  hidden : (b : Bool) (name : List ℕ) (k : Known) (n : Named) (inner : Option Known)
+      (named : Option Named)
       → (b ≡ true → StandsInFile name (Some k) (Some n))
       → StandsInFile name inner named
       → StandsInFile name (if b then Some k else inner) (if b then Some n else named)
   hidden true name k n inner named new old = new refl
   hidden false name k n inner named new old = old
 
-  same_global : {scope : Scope} {names : Names} (places : List ℕ) (d : Declarator) → HasPlace places
+  same_global : {scope : Scope} {names : Names} (places : List ℕ) (d : Var) → HasPlace places
       → FileNames scope names
       → FileNames (with_declarator d scope) (with_global places d names)
   same_global [] d p s = absurd p
@@ -48,14 +55,14 @@ module _ (text : List Part) where
         (λ e. new) (s.stands name);
   }
 
-  pub same_globals : (places : List ℕ) (ds : List Declarator) {scope : Scope} {names : Names}
+  pub same_globals : (places : List ℕ) (ds : List Var) {scope : Scope} {names : Names}
       → length ds ≤ length places → FileNames scope names
       → FileNames (with_declarators ds scope) (with_globals places ds names)
   same_globals places [] le s = s
   same_globals places (d ∷ ds) le s =
       same_globals (drop 1 places) ds (fewer (length ds) places le) (same_global places d (has_place (length ds) places le) s)
 
-  pub same_function : {scope : Scope} {names : Names} (f : Function) → FileNames scope names
+  pub same_function : {scope : Scope} {names : Names} (f : Fun) → FileNames scope names
       → FileNames (with_function text f scope) (with_routine text f names)
   same_function {scope} {names} f s = record {
     alone = s.alone;
@@ -68,19 +75,19 @@ module _ (text : List Part) where
         hidden (bytes_eq f.name name) name (known_function text f) (RoutineNamed t ps (definition text f.name)) (scope.inner name) (names name) new (s.stands name);
   }
 
-  pub places_for_globals : (ds others : List Declarator) (places : List ℕ)
+  pub places_for_globals : (ds others : List Var) (places : List ℕ)
       → length (ds ++ others) ≤ length places
       → (length ds ≤ length places) × (length others ≤ length (drop (length ds) places))
   places_for_globals ds others places le = (omega (arith, length-append ds others), omega (arith, length-append ds others, length-drop (length ds) places))
 
-  pub same_file : (ps : List Part) (places : List ℕ) {scope : Scope} {names : Names}
+  pub same_file : (ps : List Item) (places : List ℕ) {scope : Scope} {names : Names}
       → length (global_declarators ps) ≤ length places → FileNames scope names
       → FileNames (behind_parts text ps scope) (names_of text places ps names)
   same_file [] places le s = s
-  same_file (Globals keep ds ∷ ps) places le s =
+  same_file (item.Vars keep ds ∷ ps) places le s =
       let rooms = places_for_globals ds (global_declarators ps) places le in
       same_file ps (drop (length ds) places) rooms.1 (same_globals places ds rooms.0 s)
-  same_file (Routine f ∷ ps) places le s = same_file ps places le (same_function f s)
+  same_file (item.Fun f ∷ ps) places le s = same_file ps places le (same_function f s)
 
   -- what is known of a function says whether the text defines it
   pub known_is_flagged : (name : List ℕ) (known : Known) (named : Option Named)
@@ -90,14 +97,15 @@ module _ (text : List Part) where
 
   -- Functions that are defined.
 
-  picked_one : (b : Bool) (f : Function) (body : Option Statements) (other : Option Definition) (d : Definition)
+  picked_one : (b : Bool) (f : Fun) (body : Option Stmts) (other : Option Definition)
+      (d : Definition)
       → defined_by b f body other ≡ Some d
       → ((b ≡ true) × (f ≡ d.function)) ⊎ (other ≡ Some d)
   picked_one true f (Some body) other d h = let e : record { function = f; body = body } ≡ d = cc in inl (refl, ap (λ (x : Definition). x.function) e)
   picked_one true f None other d h = inr h
   picked_one false f body other d h = inr h
 
-  abbrev pub known_at : List ℕ → Function → Known
+  abbrev pub known_at : List ℕ → Fun → Known
   known_at name f = FunctionOf (result_shape f) (parameter_shapes f.parameters) (is_defined text name)
 
   bound_function : (b : Bool) (k : Known) (o : Option Known) → b ≡ true
@@ -106,7 +114,7 @@ module _ (text : List Part) where
   bound_function false k o h = cc
 
   -- behind a function its name is known
-  known_behind : (ps before : List Part) (scope : Scope) (f : Function) (name : List ℕ)
+  known_behind : (ps before : List Item) (scope : Scope) (f : Fun) (name : List ℕ)
       → bytes_eq f.name name ≡ true
       → parts_breaches text before (with_function text f scope) ps ≡ []
       → (behind_parts text ps (with_function text f scope)).inner name ≡ Some (known_at name f)
@@ -116,44 +124,44 @@ module _ (text : List Part) where
       ∙ ap (λ n. Some (FunctionOf (result_shape f) (parameter_shapes f.parameters) (is_defined text n))) one in
       stays_known text ps before (with_function text f scope) name (known_at name f) refl h here
 
-  definition_known : (ps before : List Part) (scope : Scope) (name : List ℕ) (d : Definition)
+  definition_known : (ps before : List Item) (scope : Scope) (name : List ℕ) (d : Definition)
       → parts_breaches text before scope ps ≡ []
       → definition ps name ≡ Some d
       → (behind_parts text ps scope).inner name ≡ Some (known_at name d.function)
   definition_known [] before scope name d h e = absurd cc
-  definition_known (Globals keep ds ∷ ps) before scope name d h e =
-      let rest = nil_right (part_breaches text before scope (Globals keep ds)) _ h in
-      definition_known ps (before ++ Globals keep ds ∷ []) (with_declarators ds scope) name d rest e
-  definition_known (Routine f ∷ ps) before scope name d h e =
-      let rest = nil_right (part_breaches text before scope (Routine f)) _ h in
-      let next = before ++ Routine f ∷ [] in
+  definition_known (item.Vars keep ds ∷ ps) before scope name d h e =
+      let rest = nil_right (part_breaches text before scope (item.Vars keep ds)) _ h in
+      definition_known ps (before ++ item.Vars keep ds ∷ []) (with_declarators ds scope) name d rest e
+  definition_known (item.Fun f ∷ ps) before scope name d h e =
+      let rest = nil_right (part_breaches text before scope (item.Fun f)) _ h in
+      let next = before ++ item.Fun f ∷ [] in
       elim (picked_one (bytes_eq f.name name) f f.body (definition ps name) d e) [
         | inl w ↦ known_behind ps next scope f name w.0 rest ∙ ap (λ g. Some (known_at name g)) w.1
         | inr w ↦ definition_known ps next (with_function text f scope) name d rest w
       ]
 
-  has_definition : (b : Bool) (f : Function) (body : Option Statements) (other : Option Definition)
+  has_definition : (b : Bool) (f : Fun) (body : Option Stmts) (other : Option Definition)
       → is_some (defined_by b f body other) ≡ ((is_some body && b) || is_some other)
   has_definition true f (Some body) other = refl
   has_definition true f None other = refl
   has_definition false f (Some body) other = refl
   has_definition false f None other = refl
 
-  defined_there : (ps : List Part) (name : List ℕ)
+  defined_there : (ps : List Item) (name : List ℕ)
       → is_some (definition ps name) ≡ is_defined ps name
   defined_there [] name = refl
-  defined_there (Globals keep ds ∷ ps) name = defined_there ps name
-  defined_there (Routine f ∷ ps) name =
+  defined_there (item.Vars keep ds ∷ ps) name = defined_there ps name
+  defined_there (item.Fun f ∷ ps) name =
       has_definition (bytes_eq f.name name) f f.body (definition ps name)
       ∙ ap (λ b. (is_some f.body && bytes_eq f.name name) || b) (defined_there ps name)
 
-  abbrev pub IsOf : Shape → List Shape → Option Definition → Type 0
+  abbrev pub IsOf : Ty → List Ty → Option Definition → Type 0
   IsOf t ps None = ⊥
   IsOf t ps (Some d) = (result_shape d.function ≡ t) × (parameter_shapes d.function.parameters ≡ ps)
 
   -- a definition has the type that is known
   known_type : (scope : Scope) → parts_breaches text [] scope text ≡ []
-      → (name : List ℕ) (t : Shape) (ps : List Shape) (d : Bool)
+      → (name : List ℕ) (t : Ty) (ps : List Ty) (d : Bool)
       → (behind_parts text text scope).inner name ≡ Some (FunctionOf t ps d)
       → is_defined text name ≡ true → IsOf t ps (definition text name)
   known_type scope h name t ps d here there = found (definition text name) refl
@@ -166,14 +174,14 @@ module _ (text : List Part) where
           let shapes : parameter_shapes g.function.parameters ≡ ps = cc in
           (result, shapes)
 
-  taking : (t : Shape) (ps : List Shape) (o : Option Definition) → IsOf t ps o
+  taking : (t : Ty) (ps : List Ty) (o : Option Definition) → IsOf t ps o
       → IsDefinedTaking (length ps) o
   taking t ps None s = s
   taking t ps (Some d) s = sym (length-map d.function.parameters parameter_shape) ∙ ap length s.1
 
   -- a definition takes the parameters that are known
   pub takes : (scope : Scope) → parts_breaches text [] scope text ≡ []
-      → (name : List ℕ) (t : Shape) (ps : List Shape) (d : Bool)
+      → (name : List ℕ) (t : Ty) (ps : List Ty) (d : Bool)
       → (behind_parts text text scope).inner name ≡ Some (FunctionOf t ps d)
       → is_defined text name ≡ true → IsDefinedTaking (length ps) (definition text name)
   takes scope h name t ps d here there =
@@ -181,39 +189,39 @@ module _ (text : List Part) where
 
   -- The function `main`.
 
-  none_left : (ps : List Parameter) → has_no_parameter ps ≡ true → parameter_shapes ps ≡ []
+  none_left : (ps : List Param) → has_no_parameter ps ≡ true → parameter_shapes ps ≡ []
   none_left [] h = refl
   none_left (p ∷ ps) h = cc
 
-  no_parameter : (ps : List Parameter) → parameter_shapes ps ≡ [] → ps ≡ []
+  no_parameter : (ps : List Param) → parameter_shapes ps ≡ [] → ps ≡ []
   no_parameter [] h = refl
   no_parameter (p ∷ ps) h = cc
 
   abbrev known_main : Known
-  known_main = FunctionOf IntShape [] (is_defined text main_name)
+  known_main = FunctionOf ty.Int [] (is_defined text main_name)
 
-  main_type : (f : Function)
-      → same (result_shape f) IntShape && has_no_parameter f.parameters ≡ true
+  main_type : (f : Fun)
+      → same (result_shape f) ty.Int && has_no_parameter f.parameters ≡ true
       → known_at main_name f ≡ known_main
   main_type f h =
-      let result = same_is (result_shape f) IntShape (left_true _ _ h) in
-      let none = none_left f.parameters (right_true (same (result_shape f) IntShape) _ h) in
+      let result = same_is (result_shape f) ty.Int (left_true _ _ h) in
+      let none = none_left f.parameters (right_true (same (result_shape f) ty.Int) _ h) in
       ap₂ (λ t ps. FunctionOf t ps (is_defined text main_name)) result none
 
-  main_known : (ps before : List Part) (scope : Scope) → parts_breaches text before scope ps ≡ []
+  main_known : (ps before : List Item) (scope : Scope) → parts_breaches text before scope ps ≡ []
       → has_main ps ≡ true → (behind_parts text ps scope).inner main_name ≡ Some known_main
   main_known [] before scope h m = absurd cc
-  main_known (Globals keep ds ∷ ps) before scope h m =
-      let rest = nil_right (part_breaches text before scope (Globals keep ds)) _ h in
-      main_known ps (before ++ Globals keep ds ∷ []) (with_declarators ds scope) rest m
-  main_known (Routine f ∷ ps) before scope h m =
-      let rest = nil_right (part_breaches text before scope (Routine f)) _ h in
-      let next = before ++ Routine f ∷ [] in
-      let here : is_main (Routine f) ≡ true → (behind_parts text ps (with_function text f scope)).inner main_name ≡ Some known_main = λ w.
+  main_known (item.Vars keep ds ∷ ps) before scope h m =
+      let rest = nil_right (part_breaches text before scope (item.Vars keep ds)) _ h in
+      main_known ps (before ++ item.Vars keep ds ∷ []) (with_declarators ds scope) rest m
+  main_known (item.Fun f ∷ ps) before scope h m =
+      let rest = nil_right (part_breaches text before scope (item.Fun f)) _ h in
+      let next = before ++ item.Fun f ∷ [] in
+      let here : is_main (item.Fun f) ≡ true → (behind_parts text ps (with_function text f scope)).inner main_name ≡ Some known_main = λ w.
       let named = right_true (is_some f.body) _ w in
       known_behind ps next scope f main_name (left_true (bytes_eq f.name main_name) _ named) rest
       ∙ ap Some (main_type f (right_true (bytes_eq f.name main_name) _ named)) in
-      either (is_main (Routine f)) (has_main ps) m here (main_known ps next (with_function text f scope) rest)
+      either (is_main (item.Fun f)) (has_main ps) m here (main_known ps next (with_function text f scope) rest)
 
   defines : (x y other rest later : Bool) → (x && (y && other)) || rest ≡ true
       → (rest ≡ true → later ≡ true) → (x && y) || later ≡ true
@@ -221,13 +229,13 @@ module _ (text : List Part) where
   defines true false other rest later h k = k h
   defines false y other rest later h k = k h
 
-  main_defined : (ps : List Part) → has_main ps ≡ true → is_defined ps main_name ≡ true
+  main_defined : (ps : List Item) → has_main ps ≡ true → is_defined ps main_name ≡ true
   main_defined [] m = absurd cc
-  main_defined (Globals keep ds ∷ ps) m = main_defined ps m
-  main_defined (Routine f ∷ ps) m =
+  main_defined (item.Vars keep ds ∷ ps) m = main_defined ps m
+  main_defined (item.Fun f ∷ ps) m =
       defines (is_some f.body) (bytes_eq f.name main_name) _ (has_main ps) (is_defined ps main_name) m (main_defined ps)
 
-  as_main : (o : Option Definition) → IsOf IntShape [] o → IsMain o
+  as_main : (o : Option Definition) → IsOf ty.Int [] o → IsMain o
   as_main None s = s
   as_main (Some d) s = (s.0, no_parameter d.function.parameters s.1)
 
@@ -235,4 +243,4 @@ module _ (text : List Part) where
       → IsMain (definition text main_name)
   main_is scope h m =
       as_main (definition text main_name)
-      (known_type scope h main_name IntShape [] (is_defined text main_name) (main_known text [] scope h m) (main_defined text m))
+      (known_type scope h main_name ty.Int [] (is_defined text main_name) (main_known text [] scope h m) (main_defined text m))

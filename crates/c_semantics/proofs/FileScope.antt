@@ -4,7 +4,11 @@ use Rattle.std.specs.Cmp.Lexicographic.{bytes_decides}
 use Rattle.std.specs.Prelude.{bytes_eq, if◌then◌else◌}
 use Rattle.c_tree.specs.declared.breach.Broken.TheVariants.{Twice, Mismatch}
 use Rattle.c_tree.specs.declared.place.Place.{Place}
-use Rattle.c_tree.specs.Syntax.{Shape, Declarator, Function, Part, Globals, Routine}
+use Rattle.c_tree.specs.Ty.{Ty}
+use Rattle.c_tree.specs.Var.{Var}
+use Rattle.c_tree.specs.Fun.{Fun}
+use Rattle.c_tree.specs.Item.{Item}
+use Rattle.c_tree.specs.Item as item
 use Rattle.c_tree.specs.Scope.{Known, ObjectOf, FunctionOf, Scope}
 use Rattle.c_tree.specs.Shapes.{same}
 use Rattle.c_tree.specs.Accepted.{result_shape, parameter_shapes, is_defined, same_all, again_breaches, with_function, function_breaches, part_breaches, behind_part, parts_breaches}
@@ -12,7 +16,7 @@ use Rattle.c_tree.specs.Declarators.{declared_shape, with_declarator, with_decla
 use Rattle.c_tree.proofs.Derived.{same_is}
 use Rattle.c_tree.proofs.NoBreach.{nil_left, nil_right, holds, never, left_true, right_true, is_false}
 
-same_shapes : (ts us : List Shape) → same_all ts us ≡ true → ts ≡ us
+same_shapes : (ts us : List Ty) → same_all ts us ≡ true → ts ≡ us
 same_shapes [] [] h = refl
 same_shapes [] (u ∷ us) h = absurd cc
 same_shapes (t ∷ ts) [] h = absurd cc
@@ -28,7 +32,7 @@ bound_stays : (b : Bool) (new : Known) (o : Option Known) (known : Known) → (b
 bound_stays true new o known again h = ap Some (again refl)
 bound_stays false new o known again h = h
 
-declared_stays : (scope : Scope) (d : Declarator) (name : List ℕ) (known : Known)
+declared_stays : (scope : Scope) (d : Var) (name : List ℕ) (known : Known)
     → declarator_breaches true scope d ≡ [] → scope.inner name ≡ Some known
     → (with_declarator d scope).inner name ≡ Some known
 declared_stays scope d name known h here =
@@ -39,7 +43,7 @@ declared_stays scope d name known h here =
     absurd (cc (there, ap is_some here)) in
     bound_stays (bytes_eq d.name name) (ObjectOf (declared_shape d)) (scope.inner name) known again here
 
-declarators_stay : (ds : List Declarator) (scope : Scope) (name : List ℕ) (known : Known)
+declarators_stay : (ds : List Var) (scope : Scope) (name : List ℕ) (known : Known)
     → declarators_breaches true scope ds ≡ [] → scope.inner name ≡ Some known
     → (with_declarators ds scope).inner name ≡ Some known
 declarators_stay [] scope name known h here = here
@@ -47,20 +51,20 @@ declarators_stay (d ∷ ds) scope name known h here =
     declarators_stay ds (with_declarator d scope) name known (nil_right (declarator_breaches true scope d) _ h)
     (declared_stays scope d name known (nil_left _ _ h) here)
 
-module _ (text : List Part) where
+module _ (text : List Item) where
   -- of a function, what is known says whether the text defines it
   abbrev pub IsFlagged : List ℕ → Known → Type 0
   IsFlagged name (ObjectOf t) = Unit {0}
   IsFlagged name (FunctionOf t ps d) = d ≡ is_defined text name
 
-  abbrev pub behind_parts : List Part → Scope → Scope
+  abbrev pub behind_parts : List Item → Scope → Scope
   behind_parts [] scope = scope
   behind_parts (p ∷ ps) scope = behind_parts ps (behind_part text p scope)
 
-  abbrev pub known_function : Function → Known
+  abbrev pub known_function : Fun → Known
   known_function f = FunctionOf (result_shape f) (parameter_shapes f.parameters) (is_defined text f.name)
 
-  same_again : (name : List ℕ) (known : Known) (t : Shape) (ts : List Shape) (at : Place)
+  same_again : (name : List ℕ) (known : Known) (t : Ty) (ts : List Ty) (at : Place)
       → IsFlagged name known → again_breaches (Some known) t ts at ≡ []
       → FunctionOf t ts (is_defined text name) ≡ known
   same_again name (ObjectOf u) t ts at flag h = never Twice at h
@@ -70,7 +74,7 @@ module _ (text : List Part) where
       let parameters = same_shapes us ts (right_true (same u t) (same_all us ts) right) in
       λ i. FunctionOf (sym result i) (sym parameters i) (sym flag i)
 
-  function_stays : (before : List Part) (scope : Scope) (f : Function) (name : List ℕ) (known : Known)
+  function_stays : (before : List Item) (scope : Scope) (f : Fun) (name : List ℕ) (known : Known)
       → IsFlagged name known → function_breaches text before scope f ≡ []
       → scope.inner name ≡ Some known → (with_function text f scope).inner name ≡ Some known
   function_stays before scope f name known flag h here =
@@ -82,13 +86,13 @@ module _ (text : List Part) where
       ∙ same_again name known (result_shape f) (parameter_shapes f.parameters) f.place flag right in
       bound_stays (bytes_eq f.name name) (known_function f) (scope.inner name) known again here
 
-  part_stays : (before : List Part) (scope : Scope) (p : Part) (name : List ℕ) (known : Known)
+  part_stays : (before : List Item) (scope : Scope) (p : Item) (name : List ℕ) (known : Known)
       → IsFlagged name known → part_breaches text before scope p ≡ []
       → scope.inner name ≡ Some known → (behind_part text p scope).inner name ≡ Some known
-  part_stays before scope (Globals keep ds) name known flag h here = declarators_stay ds scope name known h here
-  part_stays before scope (Routine f) name known flag h here = function_stays before scope f name known flag h here
+  part_stays before scope (item.Vars keep ds) name known flag h here = declarators_stay ds scope name known h here
+  part_stays before scope (item.Fun f) name known flag h here = function_stays before scope f name known flag h here
 
-  pub stays_known : (ps before : List Part) (scope : Scope) (name : List ℕ) (known : Known)
+  pub stays_known : (ps before : List Item) (scope : Scope) (name : List ℕ) (known : Known)
       → IsFlagged name known → parts_breaches text before scope ps ≡ []
       → scope.inner name ≡ Some known → (behind_parts ps scope).inner name ≡ Some known
   stays_known [] before scope name known flag h here = here

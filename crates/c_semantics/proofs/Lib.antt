@@ -14,7 +14,7 @@ pub mod FileScope
 pub mod Later
 pub mod Owners
 pub mod RunnableLemmas
-pub mod Runs
+pub mod RunLemmas
 pub mod SameNames
 pub mod Spends
 pub mod Steady
@@ -23,6 +23,6 @@ pub mod SteadyCalls
 pub mod SteadyEval
 pub mod SteadyExec
 pub mod SteadyTurns
-pub mod Turns
+pub mod TurnLemmas
 pub mod WiderLemmas
-pub mod Written
+pub mod WrittenMemory

@@ -17,7 +17,8 @@ use Rattle.c_semantics.specs.Live.{HasByte, LiesInMemory, owner_at, owner_holds,
 use Rattle.c_semantics.specs.Memory.{holds}
 
 -- the owner of a byte of the memory
-pub owner_inside : (owners : List ℕ) (at : ℕ) → DATA_FROM ≤ at → owner_at owners at ≡ get_or owners (at - DATA_FROM) 0
+pub owner_inside : (owners : List ℕ) (at : ℕ) → DATA_FROM ≤ at
+    → owner_at owners at ≡ get_or owners (at - DATA_FROM) 0
 owner_inside owners at h = cond-true _ _ _ (le-leb DATA_FROM at h)
 
 has_cases : (at : ℕ) (o : Object) → HasByte at o ⊎ (HasByte at o → ⊥)
@@ -28,7 +29,10 @@ has_cases at o =
     ]
 
 -- an object's cells are free where no byte of it has an owner
-pub free_range : (owners : List ℕ) (o : Object) (from to : ℕ) → DATA_FROM + from ≡ o.address → DATA_FROM + to ≡ o.address + o.size → LiesInMemory o → length owners ≡ MEMORY_BYTES → All (λ owner. owner ≡ 0) (slice_range owners from to) ↔ ((at : ℕ) → HasByte at o → owner_at owners at ≡ 0)
+pub free_range : (owners : List ℕ) (o : Object) (from to : ℕ) → DATA_FROM + from ≡ o.address
+    → DATA_FROM + to ≡ o.address + o.size → LiesInMemory o → length owners ≡ MEMORY_BYTES
+    → All (λ owner. owner ≡ 0) (slice_range owners from to) ↔
+    ((at : ℕ) → HasByte at o → owner_at owners at ≡ 0)
 free_range owners o from to f t inside cells =
     let within : to ≤ length owners = omega arith in
     let size = length-between owners from to within in (
@@ -50,7 +54,10 @@ free_range owners o from to f t inside cells =
     )
 
 -- a byte that isn't the object's keeps its owner
-pub kept_outside : (owners part : List ℕ) (o : Object) (from to : ℕ) → DATA_FROM + from ≡ o.address → DATA_FROM + to ≡ o.address + o.size → LiesInMemory o → length owners ≡ MEMORY_BYTES → length part ≡ to - from → (at : ℕ) → (HasByte at o → ⊥) → owner_at (put_mid from (to - from) owners part) at ≡ owner_at owners at
+pub kept_outside : (owners part : List ℕ) (o : Object) (from to : ℕ) → DATA_FROM + from ≡ o.address
+    → DATA_FROM + to ≡ o.address + o.size → LiesInMemory o → length owners ≡ MEMORY_BYTES
+    → length part ≡ to - from → (at : ℕ) → (HasByte at o → ⊥)
+    → owner_at (put_mid from (to - from) owners part) at ≡ owner_at owners at
 kept_outside owners part o from to f t inside cells len at other =
     let all = put_mid from (to - from) owners part in
     let front : length (take from owners) ≡ from = omega (arith, length-take from owners) in
@@ -69,7 +76,8 @@ kept_outside owners part o from to f t inside cells len at other =
     ]
 
 -- elements at the front
-get_front : (xs ys : List Object) (k : ℕ) (x : Object) → slice_get xs k ≡ Some x → slice_get (xs ++ ys) k ≡ Some x
+get_front : (xs ys : List Object) (k : ℕ) (x : Object) → slice_get xs k ≡ Some x
+    → slice_get (xs ++ ys) k ≡ Some x
 get_front [] ys k x h = cc
 get_front (y ∷ xs) ys zero x h = h
 get_front (y ∷ xs) ys (suc k) x h = get_front xs ys k x h
@@ -83,28 +91,34 @@ get_last : (xs : List Object) (x : Object) → slice_get (xs ++ x ∷ []) (lengt
 get_last [] x = refl
 get_last (y ∷ xs) x = get_last xs x
 
-any_at : (p : Object → Bool) (objects : List Object) (k : ℕ) → option_map_or p (slice_get objects k) false ≡ true → list_any p objects ≡ true
+any_at : (p : Object → Bool) (objects : List Object) (k : ℕ)
+    → option_map_or p (slice_get objects k) false ≡ true → list_any p objects ≡ true
 any_at p [] k h = absurd (false≢true h)
 any_at p (x ∷ xs) zero h = or_left (p x) _ h
 any_at p (x ∷ xs) (suc k) h = or_right (p x) _ (any_at p xs k h)
 
-any_later : (p : Object → Bool) (objects : List Object) (n : ℕ) → list_any p (drop n objects) ≡ true → list_any p objects ≡ true
+any_later : (p : Object → Bool) (objects : List Object) (n : ℕ)
+    → list_any p (drop n objects) ≡ true → list_any p objects ≡ true
 any_later p objects zero h = h
 any_later p [] (suc n) h = h
 any_later p (x ∷ xs) (suc n) h = or_right (p x) _ (any_later p xs n h)
 
 -- what an owner holds, an object of the list holds
-owner_is_one : (objects : List Object) (owner at size : ℕ) → owner_holds objects owner at size ≡ true → list_any (holds at size) objects ≡ true
+owner_is_one : (objects : List Object) (owner at size : ℕ)
+    → owner_holds objects owner at size ≡ true → list_any (holds at size) objects ≡ true
 owner_is_one objects zero at size h = absurd (false≢true h)
 owner_is_one objects (suc k) at size h = any_at (holds at size) objects k h
 
-owner_of : (objects : List Object) (owner k at size : ℕ) (o : Object) → owner ≡ k + 1 → slice_get objects k ≡ Some o → holds at size o ≡ true → owner_holds objects owner at size ≡ true
+owner_of : (objects : List Object) (owner k at size : ℕ) (o : Object) → owner ≡ k + 1
+    → slice_get objects k ≡ Some o → holds at size o ≡ true
+    → owner_holds objects owner at size ≡ true
 owner_of objects zero k at size o e got h = absurd (omega arith)
 owner_of objects (suc n) k at size o e got h =
     let same : n ≡ k = omega arith in
     ap (λ i. option_map_or (holds at size) (slice_get objects i) false) same ∙ ap (λ x. option_map_or (holds at size) x false) got ∙ h
 
-holds_parts : (at size : ℕ) (o : Object) → holds at size o ≡ true → (o.address ≤ at) × (at + size ≤ o.address + o.size)
+holds_parts : (at size : ℕ) (o : Object) → holds at size o ≡ true
+    → (o.address ≤ at) × (at + size ≤ o.address + o.size)
 holds_parts at size o h = grind (arith, nat_tests)
 
 module _ (objects : List Object) (owners : List ℕ) (standing : ℕ) (rule : StandFirst objects owners standing) (at size : ℕ) where
@@ -117,7 +131,8 @@ module _ (objects : List Object) (owners : List ℕ) (standing : ℕ) (rule : St
   abbrev later : Bool
   later = list_any (holds at size) (drop standing objects)
 
-  is_found : (k : ℕ) (o : Object) → k < length objects → get_or objects k o ≡ o → holds at size o ≡ true → (first || before || later) ≡ true
+  is_found : (k : ℕ) (o : Object) → k < length objects → get_or objects k o ≡ o
+      → holds at size o ≡ true → (first || before || later) ≡ true
   is_found k o lt is h =
       let got = slice_get-get_or objects k o lt ∙ ap Some is in
       let parts = holds_parts at size o h in
@@ -145,7 +160,8 @@ module _ (objects : List Object) (owners : List ℕ) (standing : ℕ) (rule : St
       ])
 
 -- no object
-pub none_stand : (owners : List ℕ) → length owners ≡ MEMORY_BYTES → All (λ owner. owner ≡ 0) owners → StandFirst [] owners 0
+pub none_stand : (owners : List ℕ) → length owners ≡ MEMORY_BYTES → All (λ owner. owner ≡ 0) owners
+    → StandFirst [] owners 0
 none_stand owners cells free =
     let each : (i : ℕ) → get_or owners i 0 ≡ 0 = λ i. elim (cases_lt i (length owners)) [ inl lt ↦ free i 0 lt | inr past ↦ get_or_past owners i 0 past ] in
     let none : (at : ℕ) → owner_at owners at ≡ 0 = λ at. cond_both (leb DATA_FROM at) (get_or owners (at - DATA_FROM) 0) 0 (λ n. n ≡ 0) (λ _. each (at - DATA_FROM)) (λ _. refl) in
@@ -162,7 +178,8 @@ module _ (objects all : List Object) (o : Object) (is : all ≡ objects ++ o ∷
   count_more : length all ≡ length objects + 1
   count_more = ap length is ∙ length_push objects o
 
-  back : (k : ℕ) (x : Object) → k < length objects → slice_get all k ≡ Some x → slice_get objects k ≡ Some x
+  back : (k : ℕ) (x : Object) → k < length objects → slice_get all k ≡ Some x
+      → slice_get objects k ≡ Some x
   back k x lt got = sym (ap (λ os. slice_get os k) is ∙ get_back objects (o ∷ []) k lt) ∙ got
 
   front : (k : ℕ) (x : Object) → slice_get objects k ≡ Some x → slice_get all k ≡ Some x
@@ -186,7 +203,8 @@ module _ (objects all : List Object) (o : Object) (is : all ≡ objects ++ o ∷
     }
 
     -- it ends, and didn't stand
-    pub closed_aside : StandFirst all owners standing → standing ≤ length objects → StandFirst objects owners standing
+    pub closed_aside : StandFirst all owners standing → standing ≤ length objects
+        → StandFirst objects owners standing
     closed_aside rule aside = record {
       cells = rule.cells;
       within = aside;
@@ -198,7 +216,9 @@ module _ (objects all : List Object) (o : Object) (is : all ≡ objects ++ o ∷
     -- its bytes get an owner
     module _ (new : List ℕ) (cells : length new ≡ MEMORY_BYTES) (owner : ℕ) (given : (at : ℕ) → HasByte at o → owner_at new at ≡ owner) (kept : (at : ℕ) → (HasByte at o → ⊥) → owner_at new at ≡ owner_at owners at) where
       -- it is opened and stands
-      pub opened_standing : StandFirst objects owners standing → standing ≡ length objects → LiesInMemory o → ((at : ℕ) → HasByte at o → owner_at owners at ≡ 0) → owner ≡ standing + 1 → StandFirst all new (standing + 1)
+      pub opened_standing : StandFirst objects owners standing → standing ≡ length objects
+          → LiesInMemory o → ((at : ℕ) → HasByte at o → owner_at owners at ≡ 0)
+          → owner ≡ standing + 1 → StandFirst all new (standing + 1)
       opened_standing rule stood inside free own = record {
         cells = cells;
         within = omega (arith, count_more);
@@ -224,7 +244,8 @@ module _ (objects all : List Object) (o : Object) (is : all ≡ objects ++ o ∷
       }
 
       -- it ends, and stood
-      pub closed_standing : StandFirst all owners standing → length objects < standing → owner ≡ 0 → StandFirst objects new (length objects)
+      pub closed_standing : StandFirst all owners standing → length objects < standing → owner ≡ 0
+          → StandFirst objects new (length objects)
       closed_standing rule stood none =
           let own = rule.stands (length objects) o stood (last (length objects) refl) in
           record {

@@ -5,8 +5,12 @@ use Rattle.std.proofs.lemmas.List.{length-map}
 use Rattle.c_tree.specs.declared.breach.Broken.TheVariants.{Twice, Arguments, TooManyParameters}
 use Rattle.c_tree.specs.declared.place.Place.{Place}
 use Rattle.c_tree.specs.declared.tree.Tree.{Tree}
-use Rattle.c_tree.specs.Syntax.{Shape, Parameter, Function, Part, Globals, Routine, Statements}
-use Rattle.c_tree.specs.View.{parts}
+use Rattle.c_tree.specs.Ty.{Ty}
+use Rattle.c_tree.specs.Stmt.{Stmts}
+use Rattle.c_tree.specs.Fun.{Param, Fun}
+use Rattle.c_tree.specs.Item.{Item}
+use Rattle.c_tree.specs.Item as item
+use Rattle.c_tree.specs.View.{items_of}
 use Rattle.c_tree.specs.Scope.{Known, ObjectOf, FunctionOf, Frame, Scope, empty_scope, otherwise, look_outer, entered}
 use Rattle.c_tree.specs.Breach.{unless}
 use Rattle.c_tree.specs.Accepted.{Accepted, result_shape, parameter_shapes, is_defined, again_breaches, parameter_name_breaches, with_name as with_known, with_parameter as with_known_parameter, with_parameters as with_known_parameters, parameters_breaches, definition_breaches, with_function, part_breaches, parts_breaches, text_breaches, has_main}
@@ -27,7 +31,8 @@ use Rattle.c_semantics.proofs.FileNames.{StandsInFile, FileNames, same_globals, 
 
 -- Parameters.
 
-same_parameter : {scope : Scope} {names : Names} (places : List ℕ) (t : Shape) (name : Option (List ℕ)) (at : Place)
+same_parameter : {scope : Scope} {names : Names} (places : List ℕ) (t : Ty)
+    (name : Option (List ℕ)) (at : Place)
     → HasPlace places
     → parameter_name_breaches scope name at ≡ [] → SameNames scope names
     → SameNames (with_known name t scope) (with_parameter places t name names)
@@ -40,7 +45,7 @@ is_named : (scope : Scope) (name : Option (List ℕ)) (at : Place)
 is_named scope None at h = never Arguments at h
 is_named scope (Some name) at h = refl
 
-same_parameters : (places : List ℕ) (ps : List Parameter) {scope : Scope} {names : Names}
+same_parameters : (places : List ℕ) (ps : List Param) {scope : Scope} {names : Names}
     → length ps ≤ length places → parameters_breaches scope ps ≡ []
     → SameNames scope names
     → SameNames (with_known_parameters ps scope) (with_parameters places ps names)
@@ -50,7 +55,7 @@ same_parameters places (p ∷ ps) {scope} le h s =
     same_parameters (drop 1 places) ps (fewer (length ps) places le) (nil_right own _ h)
     (same_parameter places (parameter_shape p) p.name p.place (has_place (length ps) places le) (nil_left own _ h) s)
 
-passable : (places : List ℕ) (ps : List Parameter) (scope : Scope) → length ps ≤ length places
+passable : (places : List ℕ) (ps : List Param) (scope : Scope) → length ps ≤ length places
     → parameters_breaches scope ps ≡ [] → ArePassable places ps
 passable places [] scope le h = tt
 passable places (p ∷ ps) scope le h =
@@ -66,7 +71,7 @@ length-offsets : (at : ℕ) (xs : List ℕ) → length (offsets_from at xs) ≡ 
 length-offsets at [] = refl
 length-offsets at (x ∷ xs) = ap suc (length-offsets (at + x) xs)
 
-length-places : (ps : List Parameter) (body : Statements)
+length-places : (ps : List Param) (body : Stmts)
     → length (frame_of ps body).places ≡ length ps + length (body_locals body)
 length-places ps body =
     length-offsets _ (rooms ps body) ∙ length-append (map room_of_parameter ps) (map room_of (body_locals body))
@@ -76,14 +81,14 @@ length-addresses : (gs : List Global) (c : Cursors) → length (addresses_from c
 length-addresses [] c = refl
 length-addresses (g ∷ gs) c = ap suc (length-addresses gs _)
 
-length-globals : (ps : List Part) → length (globals ps) ≡ length (global_declarators ps)
+length-globals : (ps : List Item) → length (globals ps) ≡ length (global_declarators ps)
 length-globals [] = refl
-length-globals (Globals keep ds ∷ ps) =
+length-globals (item.Vars keep ds ∷ ps) =
     length-append (map (global_of keep) ds) (globals ps) ∙ ap₂ (λ n m. n + m) (length-map ds (global_of keep)) (length-globals ps)
     ∙ sym (length-append ds (global_declarators ps))
-length-globals (Routine f ∷ ps) = length-globals ps
+length-globals (item.Fun f ∷ ps) = length-globals ps
 
-module _ (text : List Part) (h : parts_breaches text [] empty_scope text ≡ []) where
+module _ (text : List Item) (h : parts_breaches text [] empty_scope text ≡ []) where
   abbrev last_scope : Scope
   last_scope = behind_parts text text empty_scope
 
@@ -110,7 +115,7 @@ module _ (text : List Part) (h : parts_breaches text [] empty_scope text ≡ [])
   }
 
   -- what is known at one point of the text stands for the same in the whole
-  same_whole : (ps before : List Part) (scope : Scope) (those : Names) → FileNames text scope those
+  same_whole : (ps before : List Item) (scope : Scope) (those : Names) → FileNames text scope those
       → parts_breaches text before scope ps ≡ []
       → behind_parts text ps scope ≡ last_scope → SameNames scope names
   same_whole ps before scope those s right ends = record { stands = λ name. at name (scope.inner name) refl }
@@ -125,7 +130,7 @@ module _ (text : List Part) (h : parts_breaches text [] empty_scope text ≡ [])
           let last : last_scope.inner name ≡ Some known = ap (λ (x : Scope). x.inner name) (sym ends) ∙ stays in
           in_file name known (names name) last (subst (λ o. StandsInFile text name o (names name)) last (last_names.stands name))
 
-  callable_body : (before : Bool) (scope : Scope) (f : Function) (body : Option Statements)
+  callable_body : (before : Bool) (scope : Scope) (f : Fun) (body : Option Stmts)
       → SameNames scope names → definition_breaches before scope f body ≡ []
       → IfSome body (IsCallable text f)
   callable_body before scope f None s right = tt
@@ -141,24 +146,24 @@ module _ (text : List Part) (h : parts_breaches text [] empty_scope text ≡ [])
             (drop (length f.parameters) places) (same_parameters places f.parameters few (nil_left own _ two) (same_entered s)) locals (nil_right own _ two),
       )
 
-  all_callable : (ps before : List Part) (scope : Scope) (those : Names) (places : List ℕ)
+  all_callable : (ps before : List Item) (scope : Scope) (those : Names) (places : List ℕ)
       → length (global_declarators ps) ≤ length places → FileNames text scope those
       → parts_breaches text before scope ps ≡ [] → behind_parts text ps scope ≡ last_scope
       → AreCallable text ps
   all_callable [] before scope those places le s right ends = tt
-  all_callable (Globals keep ds ∷ ps) before scope those places le s right ends =
+  all_callable (item.Vars keep ds ∷ ps) before scope those places le s right ends =
       let rooms = places_for_globals text ds (global_declarators ps) places le in
       let next = same_globals text places ds rooms.0 s in
-      all_callable ps (before ++ Globals keep ds ∷ []) (with_declarators ds scope) _ (drop (length ds) places) rooms.1 next
-      (nil_right (part_breaches text before scope (Globals keep ds)) _ right) ends
-  all_callable (Routine f ∷ ps) before scope those places le s right ends =
+      all_callable ps (before ++ item.Vars keep ds ∷ []) (with_declarators ds scope) _ (drop (length ds) places) rooms.1 next
+      (nil_right (part_breaches text before scope (item.Vars keep ds)) _ right) ends
+  all_callable (item.Fun f ∷ ps) before scope those places le s right ends =
       let next = same_function text f s in
-      let rest = nil_right (part_breaches text before scope (Routine f)) _ right in
-      let inner = same_whole ps (before ++ Routine f ∷ []) (with_function text f scope) _ next rest ends in
+      let rest = nil_right (part_breaches text before scope (item.Fun f)) _ right in
+      let inner = same_whole ps (before ++ item.Fun f ∷ []) (with_function text f scope) _ next rest ends in
       let again = again_breaches (scope.inner f.name) (result_shape f) (parameter_shapes f.parameters) f.place in
-      let own = nil_right (unless _ TooManyParameters f.place) _ (nil_right again _ (nil_left (part_breaches text before scope (Routine f)) _ right)) in (
+      let own = nil_right (unless _ TooManyParameters f.place) _ (nil_right again _ (nil_left (part_breaches text before scope (item.Fun f)) _ right)) in (
         callable_body (is_defined before f.name) (with_function text f scope) f f.body inner own,
-        all_callable ps (before ++ Routine f ∷ []) (with_function text f scope) _ places le next rest ends,
+        all_callable ps (before ++ item.Fun f ∷ []) (with_function text f scope) _ places le next rest ends,
       )
 
   runnable : has_main text ≡ true → IsRunnable text
@@ -169,9 +174,9 @@ module _ (text : List Part) (h : parts_breaches text [] empty_scope text ≡ [])
     main = main_is text empty_scope h main;
   }
 
-pub right_runnable : (text : List Part) → text_breaches text ≡ [] → has_main text ≡ true
+pub right_runnable : (text : List Item) → text_breaches text ≡ [] → has_main text ≡ true
     → IsRunnable text
 right_runnable text h main = runnable text (nil_left _ _ h) main
 
-pub accepted_runnable : (tree : Tree) → Accepted tree → IsRunnable (parts tree)
-accepted_runnable tree a = right_runnable (parts tree) (unbroken tree a) (with_main tree a)
+pub accepted_runnable : (tree : Tree) → Accepted tree → IsRunnable (items_of tree)
+accepted_runnable tree a = right_runnable (items_of tree) (unbroken tree a) (with_main tree a)

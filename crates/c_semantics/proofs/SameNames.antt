@@ -5,10 +5,12 @@ use Rattle.c_tree.specs.declared.breach.Broken.TheVariants.{Mismatch, Unknown}
 use Rattle.c_tree.specs.declared.place.Place.{Place}
 use Rattle.c_tree.specs.declared.tree.Callee.{Callee}
 use Rattle.c_tree.specs.declared.tree.Callee.TheVariants as callee
-use Rattle.c_tree.specs.Syntax.{Shape, Expression, Variable, Numeral, Letter, EndOfFile, Prefix, Stepped, Converted, Infix, Choice, Stored, Element, Called, Expressions, NoMore, Next}
+use Rattle.c_tree.specs.Ty.{Ty}
+use Rattle.c_tree.specs.Expr.{Expr, Exprs}
+use Rattle.c_tree.specs.Expr as expr
 use Rattle.c_tree.specs.Scope.{Known, ObjectOf, FunctionOf, Frame, Scope, otherwise, look, look_outer, declared, entered}
-use Rattle.c_tree.specs.Rules.{is_nought, is_place, where_right, infix_rule, choice_rule, element_rule, store_rule, step_rule, cast_rule}
-use Rattle.c_tree.specs.Typing.{type_at, all_taken, object, called, one, both, prefix_type, is_test, parameters_of, result_of, others, takes_first}
+use Rattle.c_tree.specs.Rules.{is_nought, is_place, where_right, binary_rule, conditional_rule, index_rule, assign_rule, step_rule, cast_rule}
+use Rattle.c_tree.specs.Typing.{type_at, all_taken, object, called, one, both, unary_type, is_test, parameters_of, result_of, others, takes_first}
 use Rattle.c_tree.specs.Breaches.{breaches, breaches_in, name_breaches, call_breaches, same_count, all_possible}
 use Rattle.c_tree.proofs.NoBreach.{nil_left, nil_right, holds, never}
 use Rattle.c_semantics.specs.declared.home.Home.{Home}
@@ -16,13 +18,13 @@ use Rattle.c_semantics.specs.declared.home.Home.TheVariants.{Nowhere}
 use Rattle.c_semantics.specs.Names.{Definition, Named, Variable as VariableNamed, Routine, Names, with_name, known, types}
 use Rattle.c_semantics.specs.Evaluated.{IsDefinedTaking}
 
-pub record IsVariable (t : Shape) (named : Option Named) : Type 0 where
+pub record IsVariable (t : Ty) (named : Option Named) : Type 0 where
   pub home : Home
   pub is : named ≡ Some (VariableNamed t home)
   pub somewhere : home ≢ Nowhere
 
 -- where the text defines the function, its definition takes the parameters
-pub record IsRoutine (t : Shape) (ps : List Shape) (defined : Bool) (named : Option Named) : Type 0 where
+pub record IsRoutine (t : Ty) (ps : List Ty) (defined : Bool) (named : Option Named) : Type 0 where
   pub found : Option Definition
   pub is : named ≡ Some (Routine t ps found)
   pub takes : defined ≡ true → IsDefinedTaking (length ps) found
@@ -44,7 +46,7 @@ hidden : (b : Bool) (k : Known) (n : Named) (inner outer : Option Known) (named 
 hidden true k n inner outer named new old = new
 hidden false k n inner outer named new old = old
 
-pub same_with : {scope : Scope} {names : Names} (name : List ℕ) (t : Shape) (home : Home)
+pub same_with : {scope : Scope} {names : Names} (name : List ℕ) (t : Ty) (home : Home)
     → home ≢ Nowhere → SameNames scope names
     → SameNames (declared name (ObjectOf t) scope) (with_name name (VariableNamed t home) names)
 same_with {scope} {names} name t home somewhere s = record {
@@ -81,7 +83,7 @@ same_object None named at s h = never Unknown at h
 same_object (Some (ObjectOf t)) named at s h = ap (λ o. object (otherwise (option_map known o) None)) s.is
 same_object (Some (FunctionOf t ps d)) named at s h = never Mismatch at h
 
-pub is_defined_call : (t : Shape) (ps : List Shape) (d used counts fits : Bool) (at : Place)
+pub is_defined_call : (t : Ty) (ps : List Ty) (d used counts fits : Bool) (at : Place)
     → call_breaches used (Some (FunctionOf t ps d)) counts fits at ≡ [] → d ≡ true
 is_defined_call t ps d used counts fits at h = holds d Unknown at (nil_left _ _ h)
 
@@ -102,42 +104,42 @@ module _ (scope : Scope) (names : Names) (s : SameNames scope names) where
   same_called callee.Putchar used counts fits at h = refl
 
   mutual
-    pub same_type : (used : Bool) (e : Expression) → breaches scope used e ≡ []
+    pub same_type : (used : Bool) (e : Expr) → breaches scope used e ≡ []
         → type_at (types names) e ≡ type_at scope e
-    same_type used (Variable name at) h = same_object (look scope name) (names name) at (s.stands name) h
-    same_type used (Numeral t n at) h = refl
-    same_type used (Letter code at) h = refl
-    same_type used (EndOfFile at) h = refl
-    same_type used (Prefix op a at) h = ap (prefix_type op (is_place a)) (same_type true a (nil_left _ _ h))
-    same_type used (Stepped how a at) h = ap (λ t. where_right (is_place a) (one step_rule t)) (same_type true a (nil_left _ _ h))
-    same_type used (Converted to a at) h = ap (one (cast_rule to)) (same_type true a (nil_left _ _ h))
-    same_type used (Infix op a b at) h =
-        let rule = infix_rule op (is_nought a) (is_nought b) in
+    same_type used (expr.Name name at) h = same_object (look scope name) (names name) at (s.stands name) h
+    same_type used (expr.Number t n at) h = refl
+    same_type used (expr.Character code at) h = refl
+    same_type used (expr.Eof at) h = refl
+    same_type used (expr.Unary op a at) h = ap (unary_type op (is_place a)) (same_type true a (nil_left _ _ h))
+    same_type used (expr.Step how a at) h = ap (λ t. where_right (is_place a) (one step_rule t)) (same_type true a (nil_left _ _ h))
+    same_type used (expr.Cast to a at) h = ap (one (cast_rule to)) (same_type true a (nil_left _ _ h))
+    same_type used (expr.Binary op a b at) h =
+        let rule = binary_rule op (is_nought a) (is_nought b) in
         let two = nil_right (breaches scope true a) _ h in
         λ i. both rule (same_type true a (nil_left _ _ h) i) (same_type true b (nil_left _ _ two) i)
-    same_type used (Choice c a b at) h =
-        let rule = choice_rule (is_nought a) (is_nought b) in
+    same_type used (expr.Conditional c a b at) h =
+        let rule = conditional_rule (is_nought a) (is_nought b) in
         let two = nil_right (breaches scope true c) _ h in
         let three = nil_right (breaches scope true a) _ two in
         λ i. where_right (is_test (same_type true c (nil_left _ _ h) i))
         (both rule (same_type true a (nil_left _ _ two) i) (same_type true b (nil_left _ _ three) i))
-    same_type used (Stored how a b at) h =
-        let rule = store_rule how (is_nought b) in
+    same_type used (expr.Assign how a b at) h =
+        let rule = assign_rule how (is_nought b) in
         let two = nil_right (breaches scope true a) _ h in
         λ i. where_right (is_place a) (both rule (same_type true a (nil_left _ _ h) i) (same_type true b (nil_left _ _ two) i))
-    same_type used (Element a b at) h =
+    same_type used (expr.Index a b at) h =
         let two = nil_right (breaches scope true a) _ h in
-        λ i. both element_rule (same_type true a (nil_left _ _ h) i) (same_type true b (nil_left _ _ two) i)
-    same_type used (Called c all at) h =
+        λ i. both index_rule (same_type true a (nil_left _ _ h) i) (same_type true b (nil_left _ _ two) i)
+    same_type used (expr.Call c all at) h =
         let k = called scope c in
         let own = same_called c used (same_count (parameters_of k) all) (all_possible scope (parameters_of k) all) at (nil_right (breaches_in scope all) _ h) in
         ap (λ found. where_right (all_taken (types names) (parameters_of found) all) (result_of found)) own
         ∙ ap (λ b. where_right b (result_of k)) (same_taken (parameters_of k) all (nil_left _ _ h))
 
-    same_taken : (ps : List Shape) (all : Expressions) → breaches_in scope all ≡ []
+    same_taken : (ps : List Ty) (all : Exprs) → breaches_in scope all ≡ []
         → all_taken (types names) ps all ≡ all_taken scope ps all
-    same_taken ps NoMore h = refl
-    same_taken ps (Next a rest) h =
+    same_taken ps expr.NoMore h = refl
+    same_taken ps (expr.More a rest) h =
         let own = same_type true a (nil_left _ _ h) in
         let next = same_taken (others ps) rest (nil_right (breaches scope true a) _ h) in
         λ i. takes_first ps (is_nought a) (own i) && next i

@@ -53,14 +53,16 @@ module _ {A B : Type 0} (below : ℕ) (f g : A → Run B) (h : (v : A) → Like 
   then_same (More output) n lt l = refl
   then_same (Undef output act at) n lt l = refl
 
-pub like_then : {A B : Type 0} {below : ℕ} {r q : Run A} {f g : A → Run B} → Like below r q → ((v : A) → Like below (f v) (g v)) → Like below (r >>= f) (q >>= g)
+pub like_then : {A B : Type 0} {below : ℕ} {r q : Run A} {f g : A → Run B} → Like below r q
+    → ((v : A) → Like below (f v) (g v)) → Like below (r >>= f) (q >>= g)
 like_then {below = below} {r = r} {f = f} {g = g} s h store = record {
   leaves = λ left. then_leaves below f g h (r store left) left ((s store).leaves left);
   same = λ left lt. ap (λ e. then_run e g) ((s store).same left lt) ∙ then_same below f g h (r store left) left lt ((s store).leaves left);
 }
 
 -- one step leads from a bound to the next
-pub like_count : {A : Type 0} {below : ℕ} {r q : Run A} → Like below r q → Like (suc below) (count >> r) (count >> q)
+pub like_count : {A : Type 0} {below : ℕ} {r q : Run A} → Like below r q
+    → Like (suc below) (count >> r) (count >> q)
 like_count {below = below} {r = r} {q = q} h store = record { leaves = leaves; same = same }
   where
     leaves : (left : ℕ) → LeavesAtMost left ((count >> r) store left)

@@ -37,7 +37,8 @@ module _ {A B : Type 0} (k below : ℕ) (f g : A → Run B) (h : (v : A) → Ste
   then_lasts (More output) later l = IsPrefix-trans output (put_out later) (put_out (then_run later g)) l (end_appends g (λ v store. (h v store).behind) later)
   then_lasts (Undef output act at) later l = ap (λ x. then_run x g) l
 
-pub steady_then : {A B : Type 0} {k below : ℕ} {r q : Run A} {f g : A → Run B} → Steady k below r q → ((v : A) → Steady k below (f v) (g v)) → Steady k below (r >>= f) (q >>= g)
+pub steady_then : {A B : Type 0} {k below : ℕ} {r q : Run A} {f g : A → Run B} → Steady k below r q
+    → ((v : A) → Steady k below (f v) (g v)) → Steady k below (r >>= f) (q >>= g)
 steady_then {k = k} {below = below} {r = r} {q = q} {f = f} {g = g} s h store = record {
   like = like_then (λ at. (s at).like) (λ v at. (h v at).like) store;
   lasts = λ left. then_lasts k below f g h (r store left) (q store (left + k)) ((s store).lasts left);
@@ -45,7 +46,8 @@ steady_then {k = k} {below = below} {r = r} {q = q} {f = f} {g = g} s h store = 
 }
 
 -- one step leads from a bound to the next
-pub steady_count : {A : Type 0} {k below : ℕ} {r q : Run A} → Steady k below r q → Steady k (suc below) (count >> r) (count >> q)
+pub steady_count : {A : Type 0} {k below : ℕ} {r q : Run A} → Steady k below r q
+    → Steady k (suc below) (count >> r) (count >> q)
 steady_count {k = k} {r = r} {q = q} s store = record { like = like_count (λ at. (s at).like) store; lasts = lasts; behind = appends_count (λ at. (s at).behind) store }
   where
     lasts : (left : ℕ) → Lasts k ((count >> r) store left) ((count >> q) store (left + k))
@@ -75,7 +77,8 @@ steady_step {k = k} store = record {
         let next : suc (left + k) ≡ suc left + k = omega arith in
         ap (count store) (sym next)
 
-pub steady_lower : {A : Type 0} {k : ℕ} (m n : ℕ) {r q : Run A} → m ≤ n → Steady k n r q → Steady k m r q
+pub steady_lower : {A : Type 0} {k : ℕ} (m n : ℕ) {r q : Run A} → m ≤ n → Steady k n r q
+    → Steady k m r q
 steady_lower m n le s store = record {
   like = record { leaves = (s store).like.leaves; same = λ left lt. (s store).like.same left (omega arith) };
   lasts = (s store).lasts;
@@ -93,7 +96,8 @@ steady_more {k = k} a store = record {
 pub steady_pure : {A : Type 0} {k below : ℕ} (v : A) → Alone k below (pure v)
 steady_pure v store = record { like = like_pure v store; lasts = λ left. refl; behind = appends_pure v store }
 
-pub steady_undefined : {A : Type 0} {k below : ℕ} (act : Undefined) (at : Place) → Alone {A = A} k below (undefined act at)
+pub steady_undefined : {A : Type 0} {k below : ℕ} (act : Undefined) (at : Place)
+    → Alone {A = A} k below (undefined act at)
 steady_undefined act at store = record {
   like = record { leaves = λ left. tt; same = λ left lt. refl };
   lasts = λ left. refl;
@@ -107,12 +111,14 @@ steady_full store = record {
   behind = record { grows = λ left. IsPrefix-refl store.output };
 }
 
-pub steady_given : {A : Type 0} {k below : ℕ} (act : Undefined) (at : Place) (o : Option A) → Alone k below (given_or act at o)
+pub steady_given : {A : Type 0} {k below : ℕ} (act : Undefined) (at : Place) (o : Option A)
+    → Alone k below (given_or act at o)
 steady_given act at None = steady_undefined act at
 steady_given act at (Some v) = steady_pure v
 
 -- what follows a change of the store that appends to an output
-pub steady_behind : {A : Type 0} {k below : ℕ} (output more : List ℕ) {r q : ℕ → Ended A} → IsPrefix output more → IsSteady k below more r q → IsSteady k below output r q
+pub steady_behind : {A : Type 0} {k below : ℕ} (output more : List ℕ) {r q : ℕ → Ended A}
+    → IsPrefix output more → IsSteady k below more r q → IsSteady k below output r q
 steady_behind output more {q = q} p s = record {
   like = s.like;
   lasts = s.lasts;
@@ -120,9 +126,13 @@ steady_behind output more {q = q} p s = record {
 }
 
 -- one of two runs, from one store
-pub steady_choice_at : {A : Type 0} {k below : ℕ} (b : Bool) (r r' q q' : Run A) (store : Store) → IsSteady k below store.output (r store) (r' store) → IsSteady k below store.output (q store) (q' store) → IsSteady k below store.output ((if b then r else q) store) ((if b then r' else q') store)
-steady_choice_at true r r' q q' store s t = s
-steady_choice_at false r r' q q' store s t = t
+pub steady_conditional_at : {A : Type 0} {k below : ℕ} (b : Bool) (r r' q q' : Run A)
+    (store : Store) → IsSteady k below store.output (r store) (r' store)
+    → IsSteady k below store.output (q store) (q' store)
+    → IsSteady k below store.output ((if b then r else q) store) ((if b then r' else q') store)
+steady_conditional_at true r r' q q' store s t = s
+steady_conditional_at false r r' q q' store s t = t
 
-pub steady_where : {A : Type 0} {k below : ℕ} (b : Bool) {r r' q q' : Run A} → Steady k below r r' → Steady k below q q' → Steady k below (if b then r else q) (if b then r' else q')
-steady_where b {r} {r'} {q} {q'} s t store = steady_choice_at b r r' q q' store (s store) (t store)
+pub steady_where : {A : Type 0} {k below : ℕ} (b : Bool) {r r' q q' : Run A} → Steady k below r r'
+    → Steady k below q q' → Steady k below (if b then r else q) (if b then r' else q')
+steady_where b {r} {r'} {q} {q'} s t store = steady_conditional_at b r r' q q' store (s store) (t store)

@@ -8,7 +8,7 @@ use Rattle.c_tree.specs.declared.operator.Binary.TheVariants as binary
 use Rattle.c_tree.specs.declared.place.Place.{Place}
 use Rattle.c_tree.specs.declared.undefined.Undefined.TheVariants.{Access, Indeterminate, Pointer as NotAlong}
 use Rattle.c_tree.specs.Constant.{is_shift}
-use Rattle.c_tree.specs.Words.{Outcome, Gives, Fails, infix_word}
+use Rattle.c_tree.specs.Arithmetic.{Outcome, Gives, Fails, binary_word}
 use Rattle.c_semantics.specs.declared.home.Home.{Home}
 use Rattle.c_semantics.specs.declared.home.Home.TheVariants.{Fixed, InFrame, Nowhere}
 use Rattle.c_semantics.specs.declared.kind.Held.{Held}
@@ -19,8 +19,8 @@ use Rattle.c_semantics.specs.Run.{Store}
 use Rattle.c_semantics.specs.Memory.{is_fine, number, range, digits, with_bytes, read, write, value_at, store_at}
 use Rattle.c_semantics.specs.Pointers.{are_along, along, moved, distance}
 use Rattle.c_semantics.specs.Names.{address_of}
-use Rattle.c_semantics.specs.Eval.{outcome, amount, is_unsigned, is_order, compared, arithmetic, sum, difference, other_act, infix_act, combined, assigned, taken, getchar, first_of, put, putchar}
-use Rattle.c_semantics.proofs.Steady.{Alone, steady_then, steady_pure, steady_undefined, steady_behind, steady_choice_at, steady_where, steady_given}
+use Rattle.c_semantics.specs.Eval.{outcome, amount, is_unsigned, is_order, compared, arithmetic, sum, difference, other_act, binary_act, combined, assigned, taken, getchar, first_of, put, putchar}
+use Rattle.c_semantics.proofs.Steady.{Alone, steady_then, steady_pure, steady_undefined, steady_behind, steady_conditional_at, steady_where, steady_given}
 
 module _ {k below : ℕ} where
   steady_read : (size address : ℕ) (at : Place) → Alone k below (read size address at)
@@ -29,14 +29,15 @@ module _ {k below : ℕ} where
 
   steady_write : (size address v : ℕ) (at : Place) → Alone k below (write size address v at)
   steady_write size address v at store =
-      steady_choice_at (is_fine address size store.live) _ _ _ _ store (steady_pure v (record store { bytes = with_bytes address (digits size v) store.bytes })) (steady_undefined Access at store)
+      steady_conditional_at (is_fine address size store.live) _ _ _ _ store (steady_pure v (record store { bytes = with_bytes address (digits size v) store.bytes })) (steady_undefined Access at store)
 
   pub steady_value : (h : Held) (address : ℕ) (at : Place) → Alone k below (value_at h address at)
   steady_value Byte address at = steady_read 1 address at
   steady_value Word address at = steady_read 4 address at
   steady_value Array address at = steady_pure address
 
-  pub steady_store : (h : Held) (address v : ℕ) (at : Place) → Alone k below (store_at h address v at)
+  pub steady_store : (h : Held) (address v : ℕ) (at : Place)
+      → Alone k below (store_at h address v at)
   steady_store Byte address v at = steady_write 1 address (v % 2 ^ 8) at
   steady_store Word address v at = steady_write 4 address (v % 2 ^ 32) at
   steady_store Array address v at = steady_pure v
@@ -54,12 +55,13 @@ module _ {k below : ℕ} where
   steady_outcome (Gives word) at = steady_pure word
   steady_outcome (Fails act) at = steady_undefined act at
 
-  steady_arithmetic : (op : Binary) (c d : Operand) (x y : ℕ) (at : Place) → Alone k below (arithmetic op c d x y at)
-  steady_arithmetic op c d x y at = steady_outcome (infix_word op (is_unsigned c || (not (is_shift op) && is_unsigned d)) x y) at
+  steady_arithmetic : (op : Binary) (c d : Operand) (x y : ℕ) (at : Place)
+      → Alone k below (arithmetic op c d x y at)
+  steady_arithmetic op c d x y at = steady_outcome (binary_word op (is_unsigned c || (not (is_shift op) && is_unsigned d)) x y) at
 
   steady_compared : (op : Binary) (x y : ℕ) (at : Place) → Alone k below (compared op x y at)
   steady_compared op x y at =
-      let equal = steady_outcome (infix_word op true x y) at in
+      let equal = steady_outcome (binary_word op true x y) at in
       steady_where (is_order op) (steady_then (steady_along (pos x) (pos y) x at) (λ _. equal)) equal
 
   steady_sum : (c d : Operand) (x y : ℕ) (at : Place) → Alone k below (sum c d x y at)
@@ -72,22 +74,26 @@ module _ {k below : ℕ} where
   steady_difference (Pointer size) d x y at = steady_moved size (neg_ℤ (amount d y)) x at
   steady_difference c d x y at = steady_arithmetic binary.Minus c d x y at
 
-  steady_other : (op : Binary) (c d : Operand) (x y : ℕ) (at : Place) → Alone k below (other_act op c d x y at)
+  steady_other : (op : Binary) (c d : Operand) (x y : ℕ) (at : Place)
+      → Alone k below (other_act op c d x y at)
   steady_other op (Pointer size) d x y at = steady_compared op x y at
   steady_other op c d x y at = steady_arithmetic op c d x y at
 
-  pub steady_infix : (op : Binary) (c d : Operand) (x y : ℕ) (at : Place) → Alone k below (infix_act op c d x y at)
-  steady_infix binary.Plus c d x y at = steady_sum c d x y at
-  steady_infix binary.Minus c d x y at = steady_difference c d x y at
-  steady_infix op c d x y at = steady_other op c d x y at
+  pub steady_binary : (op : Binary) (c d : Operand) (x y : ℕ) (at : Place)
+      → Alone k below (binary_act op c d x y at)
+  steady_binary binary.Plus c d x y at = steady_sum c d x y at
+  steady_binary binary.Minus c d x y at = steady_difference c d x y at
+  steady_binary op c d x y at = steady_other op c d x y at
 
-  pub steady_combined : (op : Binary) (c d : Operand) (h : Held) (own at : Place) (x v : ℕ) → Alone k below (combined op c d h own at x v)
+  pub steady_combined : (op : Binary) (c d : Operand) (h : Held) (own at : Place) (x v : ℕ)
+      → Alone k below (combined op c d h own at x v)
   steady_combined op c d h own at x v =
       steady_then (steady_value h x own) (λ old.
-      steady_then (steady_infix op c d old v at) (λ w.
+      steady_then (steady_binary op c d old v at) (λ w.
       steady_then (steady_store h x w at) (λ new. steady_pure (old, new))))
 
-  pub steady_assigned : (how : Option Binary) (c d : Operand) (h : Held) (own at : Place) (x v : ℕ) → Alone k below (assigned how c d h own at x v)
+  pub steady_assigned : (how : Option Binary) (c d : Operand) (h : Held) (own at : Place) (x v : ℕ)
+      → Alone k below (assigned how c d h own at x v)
   steady_assigned None c d h own at x v = steady_store h x v at
   steady_assigned (Some op) c d h own at x v = steady_then (steady_combined op c d h own at x v) (λ both. steady_pure both.1)
 

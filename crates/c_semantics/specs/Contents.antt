@@ -21,4 +21,6 @@ access_of size address live = if is_fine address size live then Ok tt else Err A
 
 -- the number that a read gives
 abbrev pub read_of : ℕ → ℕ → List (Option ℕ) → List Object → Result ℕ Undefined
-read_of size address bytes live = if is_fine address size live then ok_or (number (range address size bytes)) Indeterminate else Err Access
+read_of size address bytes live =
+    if is_fine address size live then ok_or (number (range address size bytes)) Indeterminate
+    else Err Access

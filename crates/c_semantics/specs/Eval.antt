@@ -10,10 +10,11 @@ use Rattle.c_tree.specs.declared.place.Place.{Place}
 use Rattle.c_tree.specs.declared.tree.Callee.{Callee}
 use Rattle.c_tree.specs.declared.tree.Callee.TheVariants as callee
 use Rattle.c_tree.specs.declared.undefined.Undefined.TheVariants.{NoValue}
-use Rattle.c_tree.specs.Syntax.{Expression, Variable, Numeral, Letter, EndOfFile, Prefix, Stepped, Converted, Infix, Choice, Stored, Element, Called, Expressions, NoMore, Next}
+use Rattle.c_tree.specs.Expr.{Expr, Exprs}
+use Rattle.c_tree.specs.Expr as expr
 use Rattle.c_tree.specs.Constant.{is_logic, is_shift, decides}
 use Rattle.c_tree.specs.Typing.{type_at}
-use Rattle.c_tree.specs.Words.{Outcome, Gives, Fails, signed, truth, prefix_word, infix_word, converted}
+use Rattle.c_tree.specs.Arithmetic.{Outcome, Gives, Fails, signed, truth, unary_word, binary_word, converted}
 use Rattle.c_semantics.specs.declared.kind.Held.{Held}
 use Rattle.c_semantics.specs.declared.kind.Operand.{Operand}
 use Rattle.c_semantics.specs.declared.kind.Operand.TheVariants.{Signed, Unsigned, Pointer}
@@ -32,19 +33,19 @@ enter calls None vs = pure None
 enter calls (Some definition) vs = calls definition vs
 
 -- the place of a node
-abbrev pub place_of : Expression → Place
-place_of (Variable name at) = at
-place_of (Numeral shape n at) = at
-place_of (Letter code at) = at
-place_of (EndOfFile at) = at
-place_of (Prefix op a at) = at
-place_of (Stepped how a at) = at
-place_of (Converted to a at) = at
-place_of (Infix op a b at) = at
-place_of (Choice c a b at) = at
-place_of (Stored how a b at) = at
-place_of (Element a b at) = at
-place_of (Called callee all at) = at
+abbrev pub place_of : Expr → Place
+place_of (expr.Name name at) = at
+place_of (expr.Number shape n at) = at
+place_of (expr.Character code at) = at
+place_of (expr.Eof at) = at
+place_of (expr.Unary op a at) = at
+place_of (expr.Step how a at) = at
+place_of (expr.Cast to a at) = at
+place_of (expr.Binary op a b at) = at
+place_of (expr.Conditional c a b at) = at
+place_of (expr.Assign how a b at) = at
+place_of (expr.Index a b at) = at
+place_of (expr.Call callee all at) = at
 
 -- what arithmetic comes to
 abbrev pub outcome : Outcome → Place → Run ℕ
@@ -64,7 +65,8 @@ amount (Pointer size) x = pos x
 
 -- between two integers; a shift takes its sign from the left one
 abbrev pub arithmetic : Binary → Operand → Operand → ℕ → ℕ → Place → Run ℕ
-arithmetic op c d x y at = outcome (infix_word op (is_unsigned c || (not (is_shift op) && is_unsigned d)) x y) at
+arithmetic op c d x y at =
+    outcome (binary_word op (is_unsigned c || (not (is_shift op) && is_unsigned d)) x y) at
 
 abbrev pub is_order : Binary → Bool
 is_order binary.Less = true
@@ -75,7 +77,9 @@ is_order _ = false
 
 -- between two pointers: equality is always defined, an order along one object alone
 abbrev pub compared : Binary → ℕ → ℕ → Place → Run ℕ
-compared op x y at = if is_order op then along (pos x) (pos y) x at >> outcome (infix_word op true x y) at else outcome (infix_word op true x y) at
+compared op x y at = if is_order op
+    then along (pos x) (pos y) x at >> outcome (binary_word op true x y) at
+    else outcome (binary_word op true x y) at
 
 abbrev pub sum : Operand → Operand → ℕ → ℕ → Place → Run ℕ
 sum (Pointer size) d x y at = moved size (amount d y) x at
@@ -92,10 +96,10 @@ other_act op (Pointer size) d x y at = compared op x y at
 other_act op c d x y at = arithmetic op c d x y at
 
 -- what an operator does with two values (6.5.5 to 6.5.12)
-abbrev pub infix_act : Binary → Operand → Operand → ℕ → ℕ → Place → Run ℕ
-infix_act binary.Plus c d x y at = sum c d x y at
-infix_act binary.Minus c d x y at = difference c d x y at
-infix_act op c d x y at = other_act op c d x y at
+abbrev pub binary_act : Binary → Operand → Operand → ℕ → ℕ → Place → Run ℕ
+binary_act binary.Plus c d x y at = sum c d x y at
+binary_act binary.Minus c d x y at = difference c d x y at
+binary_act op c d x y at = other_act op c d x y at
 
 -- `&&` and `||` evaluate the right operand only where the left one doesn't decide (6.5.13, 6.5.14)
 abbrev pub logic : Binary → Run ℕ → Run ℕ → Run ℕ
@@ -110,10 +114,10 @@ strict op c d at a b = do
   x ← a
   y ← b
   count
-  infix_act op c d x y at
+  binary_act op c d x y at
 
-abbrev pub infix_run : Binary → Operand → Operand → Place → Run ℕ → Run ℕ → Run ℕ
-infix_run op c d at a b = if is_logic op then logic op a b else strict op c d at a b
+abbrev pub binary_run : Binary → Operand → Operand → Place → Run ℕ → Run ℕ → Run ℕ
+binary_run op c d at a b = if is_logic op then logic op a b else strict op c d at a b
 
 -- `*a` (6.5.3.2)
 abbrev pub pointee : Held → Place → Run ℕ → Run ℕ
@@ -129,17 +133,17 @@ address_taken place = do
   count
   pure x
 
-abbrev pub prefixed : Unary → Operand → Place → Run ℕ → Run ℕ
-prefixed op c at a = do
+abbrev pub unary_value_run : Unary → Operand → Place → Run ℕ → Run ℕ
+unary_value_run op c at a = do
   x ← a
   count
-  outcome (prefix_word op (is_unsigned c) x) at
+  outcome (unary_word op (is_unsigned c) x) at
 
 -- 6.5.3; the operand's value, and its address
-abbrev pub prefix_run : Unary → Operand → Held → Place → Run ℕ → Run ℕ → Run ℕ
-prefix_run unary.At c h at a place = pointee h at a
-prefix_run unary.Address c h at a place = address_taken place
-prefix_run op c h at a place = prefixed op c at a
+abbrev pub unary_run : Unary → Operand → Held → Place → Run ℕ → Run ℕ → Run ℕ
+unary_run unary.At c h at a place = pointee h at a
+unary_run unary.Address c h at a place = address_taken place
+unary_run op c h at a place = unary_value_run op c at a
 
 abbrev pub step_operator : Step → Binary
 step_operator RaiseFirst = binary.Plus
@@ -158,7 +162,7 @@ step_value LowerLast old new = old
 abbrev pub combined : Binary → Operand → Operand → Held → Place → Place → ℕ → ℕ → Run (ℕ × ℕ)
 combined op c d h own at x v = do
   old ← value_at h x own
-  w ← infix_act op c d old v at
+  w ← binary_act op c d old v at
   new ← store_at h x w at
   pure (old, new)
 
@@ -177,16 +181,17 @@ assigned (Some op) c d h own at x v = do
   both ← combined op c d h own at x v
   pure both.1
 
-abbrev pub stored : Option Binary → Operand → Operand → Held → Place → Place → Run ℕ → Run ℕ → Run ℕ
-stored how c d h own at place value = do
+abbrev pub assign_run : Option Binary → Operand → Operand → Held → Place → Place → Run ℕ → Run ℕ
+    → Run ℕ
+assign_run how c d h own at place value = do
   x ← place
   v ← value
   count
   assigned how c d h own at x v
 
 -- `c ? a : b` (6.5.15)
-abbrev pub choice : Run ℕ → Run ℕ → Run ℕ → Run ℕ
-choice c a b = do
+abbrev pub conditional_run : Run ℕ → Run ℕ → Run ℕ → Run ℕ
+conditional_run c a b = do
   x ← c
   v ← (if x == 0 then b else a)
   count
@@ -227,10 +232,10 @@ call all function = do
   function vs
 
 module _ (input : List ℕ) (calls : Calls) (names : Names) where
-  abbrev pub operand_in : Expression → Operand
+  abbrev pub operand_in : Expr → Operand
   operand_in e = operand_by (type_at (types names) e)
 
-  abbrev pub held_in : Expression → Held
+  abbrev pub held_in : Expr → Held
   held_in e = held_by (type_at (types names) e)
 
   -- what a call names
@@ -240,56 +245,60 @@ module _ (input : List ℕ) (calls : Calls) (names : Names) where
   called callee.Putchar vs = putchar vs
 
   abbrev mutual
-    pub eval : Expression → Run ℕ
-    eval (Variable name at) = do
+    pub eval : Expr → Run ℕ
+    eval (expr.Name name at) = do
       count
       x ← address_of (home_of (names name))
-      value_at (held_in (Variable name at)) x at
-    eval (Numeral shape n at) = do
+      value_at (held_in (expr.Name name at)) x at
+    eval (expr.Number shape n at) = do
       count
       pure n
-    eval (Letter code at) = do
+    eval (expr.Character code at) = do
       count
       pure code
-    eval (EndOfFile at) = do
+    eval (expr.Eof at) = do
       count
       pure 4294967295
-    eval (Prefix op a at) = prefix_run op (operand_in a) (held_in (Prefix op a at)) at (eval a) (address a)
-    eval (Stepped how a at) = stepped how (operand_in a) (held_in a) (place_of a) at (address a)
-    eval (Converted to a at) = do
+    eval (expr.Unary op a at) =
+        unary_run op (operand_in a) (held_in (expr.Unary op a at)) at (eval a) (address a)
+    eval (expr.Step how a at) = stepped how (operand_in a) (held_in a) (place_of a) at (address a)
+    eval (expr.Cast to a at) = do
       x ← eval a
       count
       pure (converted to x)
-    eval (Infix op a b at) = infix_run op (operand_in a) (operand_in b) at (eval a) (eval b)
-    eval (Choice c a b at) = choice (eval c) (eval a) (eval b)
-    eval (Stored how a b at) = stored how (operand_in a) (operand_in b) (held_in a) (place_of a) at (address a) (eval b)
-    eval (Element a b at) = do
+    eval (expr.Binary op a b at) = binary_run op (operand_in a) (operand_in b) at (eval a) (eval b)
+    eval (expr.Conditional c a b at) = conditional_run (eval c) (eval a) (eval b)
+    eval (expr.Assign how a b at) =
+        assign_run how (operand_in a) (operand_in b) (held_in a) (place_of a) at (address a)
+        (eval b)
+    eval (expr.Index a b at) = do
       x ← strict binary.Plus (operand_in a) (operand_in b) at (eval a) (eval b)
-      value_at (held_in (Element a b at)) x at
-    eval (Called callee all at) = do
+      value_at (held_in (expr.Index a b at)) x at
+    eval (expr.Call callee all at) = do
       v ← call (arguments all) (called callee)
       given_or NoValue at v
 
     -- the address of a place: a name, `*a` or `a[b]` (6.3.2.1)
-    pub address : Expression → Run ℕ
-    address (Variable name at) = do
+    pub address : Expr → Run ℕ
+    address (expr.Name name at) = do
       count
       address_of (home_of (names name))
-    address (Prefix op a at) = do
+    address (expr.Unary op a at) = do
       x ← eval a
       count
       pure x
-    address (Element a b at) = strict binary.Plus (operand_in a) (operand_in b) at (eval a) (eval b)
+    address (expr.Index a b at) =
+        strict binary.Plus (operand_in a) (operand_in b) at (eval a) (eval b)
     address e = pure 0
 
-    pub arguments : Expressions → Run (List ℕ)
-    arguments NoMore = pure []
-    arguments (Next e rest) = do
+    pub arguments : Exprs → Run (List ℕ)
+    arguments expr.NoMore = pure []
+    arguments (expr.More e rest) = do
       v ← eval e
       vs ← arguments rest
       pure (v ∷ vs)
 
   -- an expression whose value isn't used (6.8.3)
-  abbrev pub unused : Expression → Run (Unit {0})
-  unused (Called callee all at) = call (arguments all) (called callee) >> pure tt
+  abbrev pub unused : Expr → Run (Unit {0})
+  unused (expr.Call callee all at) = call (arguments all) (called callee) >> pure tt
   unused e = eval e >> pure tt

@@ -11,7 +11,8 @@ HasByte at o = (o.address ≤ at) × (at < o.address + o.size)
 
 -- it has a byte at least, and all lie in the memory
 abbrev pub LiesInMemory : Object → Type 0
-LiesInMemory o = (0 < o.size) × (DATA_FROM ≤ o.address) × (o.address + o.size ≤ DATA_FROM + MEMORY_BYTES)
+LiesInMemory o = (0 < o.size) × (DATA_FROM ≤ o.address)
+    × (o.address + o.size ≤ DATA_FROM + MEMORY_BYTES)
 
 -- the owner of the byte at an address; a byte outside the memory has none
 abbrev pub owner_at : List ℕ → ℕ → ℕ
@@ -32,7 +33,9 @@ pub record StandFirst (objects : List Object) (owners : List ℕ) (standing : �
   pub cells : length owners ≡ MEMORY_BYTES
   pub within : standing ≤ length objects
   -- each of them owns its bytes
-  pub stands : (k : ℕ) (o : Object) → k < standing → slice_get objects k ≡ Some o → Stands owners (k + 1) o
+  pub stands : (k : ℕ) (o : Object) → k < standing → slice_get objects k ≡ Some o
+      → Stands owners (k + 1) o
   -- an owner is one of them, and has the byte
   pub among : (at k : ℕ) → owner_at owners at ≡ k + 1 → k < standing
-  pub has : (at k : ℕ) (o : Object) → owner_at owners at ≡ k + 1 → slice_get objects k ≡ Some o → HasByte at o
+  pub has : (at k : ℕ) (o : Object) → owner_at owners at ≡ k + 1 → slice_get objects k ≡ Some o
+      → HasByte at o

@@ -44,14 +44,17 @@ with_bytes at (b ∷ bs) bytes = with_bytes (at + 1) bs (with_byte at (Some b) b
 abbrev pub read : ℕ → ℕ → Place → Run ℕ
 read size address at = do
   store ← now
-  if is_fine address size store.live then given_or Indeterminate at (number (range address size store.bytes)) else undefined Access at
+  if is_fine address size store.live
+      then given_or Indeterminate at (number (range address size store.bytes))
+      else undefined Access at
 
 -- the number that was stored
 abbrev pub write : ℕ → ℕ → ℕ → Place → Run ℕ
 write size address v at = do
   store ← now
   if is_fine address size store.live
-      then change (record store { bytes = with_bytes address (digits size v) store.bytes }) >> pure v
+      then change (record store { bytes = with_bytes address (digits size v) store.bytes }) >> pure
+      v
       else undefined Access at
 
 -- what an object holds; of an array, the address of its first element (6.3.2.1)

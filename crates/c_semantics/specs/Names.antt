@@ -1,6 +1,9 @@
 -- The names in scope, with where their objects stand.
 use Rattle.std.specs.Prelude.{ℕ, ◌+◌, true, List, [], Option, Some, None, option_map, bytes_eq, if◌then◌else◌}
-use Rattle.c_tree.specs.Syntax.{Shape, UnsignedShape, CharShape, PointerTo, ArrayOf, Function, Statements}
+use Rattle.c_tree.specs.Ty.{Ty}
+use Rattle.c_tree.specs.Ty as ty
+use Rattle.c_tree.specs.Stmt.{Stmts}
+use Rattle.c_tree.specs.Fun.{Fun}
 use Rattle.c_tree.specs.Scope.{Known, ObjectOf, FunctionOf, Scope}
 use Rattle.c_tree.specs.Shapes.{decayed}
 use Rattle.c_layout.specs.Sizes.{size}
@@ -14,13 +17,13 @@ use Rattle.c_semantics.specs.Run.{Run, pure, ◌>>=◌, now}
 
 -- a function that the text defines, with its body
 pub record Definition : Type 0 where
-  pub function : Function
-  pub body : Statements
+  pub function : Fun
+  pub body : Stmts
 
 -- what a name stands for: a variable, with where it stands; or a function, with its definition
 pub data Named : Type 0 where
-  Variable : (shape : Shape) (home : Home) → Named
-  Routine : (result : Shape) (parameters : List Shape) (definition : Option Definition) → Named
+  Variable : (shape : Ty) (home : Home) → Named
+  Routine : (result : Ty) (parameters : List Ty) (definition : Option Definition) → Named
 
 abbrev pub Names : Type 0
 Names = List ℕ → Option Named
@@ -59,26 +62,26 @@ definition_of (Some (Routine result parameters definition)) = definition
 definition_of None = None
 
 -- what an object of a type holds
-abbrev pub held : Shape → Held
-held CharShape = Byte
-held (ArrayOf t n) = Array
+abbrev pub held : Ty → Held
+held ty.Char = Byte
+held (ty.Array t n) = Array
 held _ = Word
 
-abbrev pub operand_of : Shape → Operand
-operand_of UnsignedShape = Unsigned
-operand_of (PointerTo t) = Pointer (size t)
+abbrev pub operand_of : Ty → Operand
+operand_of ty.Unsigned = Unsigned
+operand_of (ty.Pointer t) = Pointer (size t)
 operand_of _ = Signed
 
 -- how a value of a type takes part in arithmetic: an array as a pointer to its first element (6.3.2.1)
-abbrev pub operand : Shape → Operand
+abbrev pub operand : Ty → Operand
 operand t = operand_of (decayed t)
 
 -- An expression that has no type stands in no text that is accepted, and counts as an int here.
 
-abbrev pub held_by : Option Shape → Held
+abbrev pub held_by : Option Ty → Held
 held_by None = Word
 held_by (Some t) = held t
 
-abbrev pub operand_by : Option Shape → Operand
+abbrev pub operand_by : Option Ty → Operand
 operand_by None = Signed
 operand_by (Some t) = operand t

@@ -27,4 +27,5 @@ moved size i p at = along (pos p) (pos p +ℤ (i *ℤ pos size)) (nat_abs (pos p
 
 -- the elements from one pointer to another, toward zero
 abbrev pub distance : ℕ → ℕ → ℕ → Place → Run ℕ
-distance size p q at = along (pos p) (pos q) (cast_unsigned w32 (int_div (pos p -ℤ pos q) (pos size))) at
+distance size p q at = along (pos p) (pos q)
+    (cast_unsigned w32 (int_div (pos p -ℤ pos q) (pos size))) at

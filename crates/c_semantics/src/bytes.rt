@@ -9,7 +9,7 @@ use c_tree::OutOfMemory;
 use std::alloc::Global;
 
 /// So many bytes that aren't written.
-pub fn unwritten(alloc: Global, count: usize) -> Result<Vec<Option<u8>>, OutOfMemory>
+pub fn unwritten_bytes(alloc: Global, count: usize) -> Result<Vec<Option<u8>>, OutOfMemory>
     ensures cells { IfOk result (λ cells. length cells.items ≡ count) }
     ensures unwritten { IfOk result (λ cells. cells.items ≡ unwritten count) }
 {

@@ -5,7 +5,7 @@ mod bytes;
 mod flow;
 mod home;
 mod kind;
-mod law;
+mod laws;
 mod live;
 mod local;
 mod memory;
@@ -14,7 +14,7 @@ mod object;
 pub use flow::Flow;
 pub use home::Home;
 pub use kind::{Held, Operand};
-pub use law::{
+pub use laws::{
     an_accepted_text_has_types, later_answer_stays, markers_mean_nothing, output_grows,
     wider_bounds_change_nothing,
 };

@@ -80,7 +80,8 @@ fn are_free(owners: &[u32]) -> bool
 /// Whether an object can own its bytes: it lies in the memory, and no byte of it has an owner.
 fn can_stand(owners: &[u32], object: Object) -> bool
     requires { length owners.now ≡ MEMORY_BYTES }
-    ensures { IsTrue result ↔ (LiesInMemory object × ((at : ℕ) → HasByte at object → owner_at owners.now at ≡ 0)) }
+    ensures { IsTrue result ↔
+        (LiesInMemory object × ((at : ℕ) → HasByte at object → owner_at owners.now at ≡ 0)) }
 {
     if !object.lies_in_memory() {
         return false;
@@ -94,7 +95,8 @@ fn give(owners: &mut [u32], object: Object, owner: u32)
     requires inside { LiesInMemory object }
     requires cells { length owners.old ≡ MEMORY_BYTES }
     ensures given { (at : ℕ) → HasByte at object → owner_at owners.new at ≡ owner }
-    ensures kept { (at : ℕ) → ¬ (HasByte at object) → owner_at owners.new at ≡ owner_at owners.old at }
+    ensures kept { (at : ℕ) → ¬ (HasByte at object)
+        → owner_at owners.new at ≡ owner_at owners.old at }
 {
     let (from, to) = object.cells();
     owners[from..to].fill(owner);

@@ -35,17 +35,19 @@ impl Model for Memory {
 impl Memory {
     /// A memory where no byte is written and no object lives.
     pub fn new(alloc: Global) -> Result<Memory, OutOfMemory>
-        ensures { IfOk result (λ memory. memory ≡ record { bytes = unwritten MEMORY_BYTES; live = [] }) }
+        ensures { IfOk result (λ memory. memory
+            ≡ record { bytes = unwritten MEMORY_BYTES; live = [] }) }
     {
         Ok(Memory {
-            cells: bytes::unwritten(alloc, MEMORY_BYTES)?,
+            cells: bytes::unwritten_bytes(alloc, MEMORY_BYTES)?,
             live: Live::new(alloc)?,
         })
     }
 
     /// Opens an object, whose bytes stay as they are.
     pub fn open(&mut self, object: Object) -> Result<(), OutOfMemory>
-        ensures opened { OnOk result (self.new ≡ record self.old { live = self.old.live ++ object ∷ [] }) }
+        ensures opened { OnOk result
+            (self.new ≡ record self.old { live = self.old.live ++ object ∷ [] }) }
         ensures refused { OnErr result (self.new ≡ self.old) }
     {
         self.live.open(object)
@@ -110,7 +112,8 @@ impl Memory {
     fn write(&mut self, address: u64, bytes: &[u8]) -> Result<(), Undefined>
         requires { 0 < length bytes.now }
         ensures access { result ≡ access_of (length bytes.now) address self.old.live }
-        ensures written { OnOk result (self.new ≡ record self.old { bytes = with_bytes address bytes.now self.old.bytes }) }
+        ensures written { OnOk result
+            (self.new ≡ record self.old { bytes = with_bytes address bytes.now self.old.bytes }) }
         ensures refused { OnErr result (self.new ≡ self.old) }
     {
         if !self.is_fine(address, bytes.len() as u64) {
@@ -123,7 +126,9 @@ impl Memory {
     /// Writes the lowest byte of a number.
     pub fn write_byte(&mut self, address: u64, value: u32) -> Result<(), Undefined>
         ensures access { result ≡ access_of 1 address self.old.live }
-        ensures written { OnOk result (self.new ≡ record self.old { bytes = with_bytes address (digits 1 value) self.old.bytes }) }
+        ensures written { OnOk result
+            (self.new ≡ record self.old
+            { bytes = with_bytes address (digits 1 value) self.old.bytes }) }
         ensures refused { OnErr result (self.new ≡ self.old) }
     {
         self.write(address, &[(value % 256) as u8])
@@ -132,7 +137,9 @@ impl Memory {
     /// Writes the four bytes of a number, the lowest first.
     pub fn write_word(&mut self, address: u64, value: u32) -> Result<(), Undefined>
         ensures access { result ≡ access_of 4 address self.old.live }
-        ensures written { OnOk result (self.new ≡ record self.old { bytes = with_bytes address (digits 4 value) self.old.bytes }) }
+        ensures written { OnOk result
+            (self.new ≡ record self.old
+            { bytes = with_bytes address (digits 4 value) self.old.bytes }) }
         ensures refused { OnErr result (self.new ≡ self.old) }
     {
         self.write(address, &value.to_le_bytes())

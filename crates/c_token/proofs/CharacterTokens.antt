@@ -5,20 +5,21 @@ use Rattle.std.proofs.lemmas.List.{get_or_at, take_more}
 use Rattle.std.specs.Char.{is_ascii_digit}
 use Rattle.std.specs.Prelude.{Err, Ok, nat_eq, nat_le}
 use Rattle.c_token.specs.Bytes.{first}
-use Rattle.c_token.specs.Fronts.{Takes, TakesNone}
-use Rattle.c_token.specs.Lexemes.{IsLexeme}
-use Rattle.c_token.specs.Quotes.{IsCharacter, character_in, has_quotes, quoted}
-use Rattle.c_token.specs.SignForms.{three}
+use Rattle.c_token.specs.private.Fronts.{Takes, TakesNone}
+use Rattle.c_token.specs.private.Lexemes.{IsLexeme}
+use Rattle.c_token.specs.private.Quotes.{IsCharacter, character_in, has_quotes, quoted}
+use Rattle.c_token.specs.private.SignForms.{three}
 use Rattle.c_token.proofs.ConstantWords.{constant_digit}
 use Rattle.c_token.proofs.Escapes.{is_quoted}
 use Rattle.c_token.proofs.Families.{family, quote_family, some_bytes}
-use Rattle.c_token.proofs.Lists.{false_true, first_front}
-use Rattle.c_token.proofs.Quotes.{one_quote, quoted_length, some_is_none, some_then}
+use Rattle.c_token.proofs.TokenLists.{false_true, first_front}
+use Rattle.c_token.proofs.QuotesLemmas.{one_quote, quoted_length, some_is_none, some_then}
 use Rattle.c_token.specs.declared.lexeme.Lexeme.TheVariants as l
 use Rattle.c_token.specs.declared.lexeme.BadToken.TheVariants as bad
 use Rattle.c_token.specs.Spelling.Spells.{character}
 
-pub character_found : (rest : List ℕ) (v n : ℕ) → Takes (IsCharacter v) rest n → IsLexeme rest (Ok (l.Character v, n))
+pub character_found : (rest : List ℕ) (v n : ℕ) → Takes (IsCharacter v) rest n
+    → IsLexeme rest (Ok (l.Character v, n))
 character_found rest v n is =
     let front : List ℕ = take n rest in
     let inside : List ℕ = is.2.inside in
@@ -37,7 +38,8 @@ character_found rest v n is =
       },
     )
 
-pub character_fails : (rest : List ℕ) → nat_eq (first rest) 39 ≡ true → ((v : ℕ) → TakesNone (IsCharacter v) rest) → IsLexeme rest (Err bad.Character)
+pub character_fails : (rest : List ℕ) → nat_eq (first rest) 39 ≡ true
+    → ((v : ℕ) → TakesNone (IsCharacter v) rest) → IsLexeme rest (Err bad.Character)
 character_fails rest begins none = (
   λ bytes behind splits s.
       let f = family bytes s.kind s.spelled in
@@ -53,7 +55,8 @@ character_fails rest begins none = (
   ),
 )
 
-enclosed : (rest : List ℕ) (n : ℕ) → 3 ≤ n → n ≤ length rest → get_or rest 0 0 ≡ 39 → get_or rest (n - 1) 0 ≡ 39 → take n rest ≡ 39 ∷ take (n - 2) (drop 1 rest) ++ 39 ∷ []
+enclosed : (rest : List ℕ) (n : ℕ) → 3 ≤ n → n ≤ length rest → get_or rest 0 0 ≡ 39
+    → get_or rest (n - 1) 0 ≡ 39 → take n rest ≡ 39 ∷ take (n - 2) (drop 1 rest) ++ 39 ∷ []
 enclosed [] n three le a b = absurd (omega (arith, three, le))
 enclosed (x ∷ xs) n three le a b =
     let m : ℕ = n - 2 in
@@ -62,7 +65,8 @@ enclosed (x ∷ xs) n three le a b =
     let last : get_or xs m 0 ≡ 39 = ap (λ i. get_or (x ∷ xs) i 0) (sym f) ∙ b in
     ap (λ i. take i (x ∷ xs)) e ∙ ap₂ (λ u l. u ∷ l) a (take_more xs m 0 (omega (arith, three, le)) ∙ ap (λ u. take m xs ++ u ∷ []) last)
 
-pub in_some : (rest : List ℕ) (n v : ℕ) → 3 ≤ n → Some v ≡ character_in rest n → Takes (IsCharacter v) rest n
+pub in_some : (rest : List ℕ) (n v : ℕ) → 3 ≤ n → Some v ≡ character_in rest n
+    → Takes (IsCharacter v) rest n
 in_some rest n v three h =
     let t : has_quotes rest n ≡ true = some_then (has_quotes rest n) _ v (sym h) in
     let p = and_parts (nat_le n (length rest)) _ t in
@@ -77,12 +81,15 @@ in_some rest n v three h =
       },
     )
 
-pub in_from : (rest : List ℕ) (n : ℕ) → 3 ≤ n → n ≤ length rest → get_or rest 0 0 ≡ 39 → get_or rest (n - 1) 0 ≡ 39 → (r : Option ℕ) → r ≡ quoted (take (n - 1 - 1) (drop 1 rest)) → r ≡ character_in rest n
+pub in_from : (rest : List ℕ) (n : ℕ) → 3 ≤ n → n ≤ length rest → get_or rest 0 0 ≡ 39
+    → get_or rest (n - 1) 0 ≡ 39 → (r : Option ℕ) → r ≡ quoted (take (n - 1 - 1) (drop 1 rest))
+    → r ≡ character_in rest n
 in_from rest n three le a b r h =
     let e : n - 1 - 1 ≡ n - 2 = omega arith in
     h ∙ ap (λ i. quoted (take i (drop 1 rest))) e ∙ sym (cond-true _ _ _ (and_from (nat_le n (length rest)) _ (le-leb n (length rest) le) (and_from (nat_eq (get_or rest 0 0) 39) _ (eq-eqb _ 39 a) (eq-eqb _ 39 b))))
 
-in_back : (inside behind : List ℕ) → character_in ((39 ∷ inside ++ 39 ∷ []) ++ behind) (length inside + 2) ≡ quoted inside
+in_back : (inside behind : List ℕ)
+    → character_in ((39 ∷ inside ++ 39 ∷ []) ++ behind) (length inside + 2) ≡ quoted inside
 in_back inside behind =
     let rest : List ℕ = (inside ++ 39 ∷ []) ++ behind in
     let n : ℕ = length inside in
@@ -94,7 +101,8 @@ in_back inside behind =
     cond-true _ _ _ (and_from (nat_le (n + 2) (length (39 ∷ rest))) _ (le-leb (n + 2) (length (39 ∷ rest)) le) (and_from true _ refl (eq-eqb _ 39 last)))
     ∙ ap₂ (λ i l. quoted (take i l)) f flat ∙ ap quoted (take_at inside (39 ∷ behind) n refl)
 
-pub none_in : (rest : List ℕ) → ((k : ℕ) → 3 ≤ k → k < 7 → character_in rest k ≡ None) → (v : ℕ) → TakesNone (IsCharacter v) rest
+pub none_in : (rest : List ℕ) → ((k : ℕ) → 3 ≤ k → k < 7 → character_in rest k ≡ None) → (v : ℕ)
+    → TakesNone (IsCharacter v) rest
 none_in rest h v bytes behind splits is =
     let n = quoted_length is.inside v is.value_is in
     let e : rest ≡ (39 ∷ is.inside ++ 39 ∷ []) ++ behind = splits ∙ ap (λ l. l ++ behind) is.parts in

@@ -13,18 +13,21 @@ use Rattle.c_token.specs.Bytes.{first}
 use Rattle.c_token.specs.Comments.{EndsLine, is_in_line}
 use Rattle.c_token.specs.Directives.{IsDirective, begins_directive}
 use Rattle.c_token.specs.Pieces.{IsNew, IsPiece, found_by, with_name}
-use Rattle.c_token.specs.Readers.{names_of}
+use Rattle.c_token.specs.private.Readers.{names_of}
 use Rattle.c_token.specs.declared.number.Number.{Number}
 use Rattle.c_token.specs.declared.reader.Reader.{Reader}
-use Rattle.c_token.proofs.Lists.{false_true, first_take}
-use Rattle.c_token.proofs.Runs.{run_all, run_ends, some_len}
+use Rattle.c_token.proofs.TokenLists.{false_true, first_take}
+use Rattle.c_token.proofs.ByteRuns.{run_all, run_ends, some_len}
 use Rattle.c_token.specs.Pieces.IsPiece.{directive}
 
-pub names_defined : (old new : BTreeMap (Bor (List ℕ)) Number) (key : Bor (List ℕ)) (n : Number) → UpdatesBy (λ x y. slice_cmp nat_cmp x.now y.now) (λ k. slice_cmp nat_cmp key.now k.now) old new (Some n)
+pub names_defined : (old new : BTreeMap (Bor (List ℕ)) Number) (key : Bor (List ℕ)) (n : Number)
+    → UpdatesBy (λ x y. slice_cmp nat_cmp x.now y.now)
+    (λ k. slice_cmp nat_cmp key.now k.now) old new (Some n)
     → names_of new ≡ with_name key.now n (names_of old)
 names_defined old new key n u = λ i name. (u.0 (record { ref_ptr = key.ref_ptr; now = name }) ∙ ap (λ b. cond b (Some n) (names_of old name)) (is_eq-slice_cmp key.now name)) i
 
-pub directive_piece : (r : Reader) (n : ℕ) (said : Option (List ℕ × Number)) → begins_directive r.spot r.rest.now ≡ true → n ≡ prefix_len is_in_line r.rest.now
+pub directive_piece : (r : Reader) (n : ℕ) (said : Option (List ℕ × Number))
+    → begins_directive r.spot r.rest.now ≡ true → n ≡ prefix_len is_in_line r.rest.now
     → IsDirective (take n r.rest.now) said → IsNew (names_of r.defines) said
     → (0 < n) × (n ≤ length r.rest.now) × IsPiece r.spot (names_of r.defines) (take n r.rest.now) (drop n r.rest.now) (found_by said)
 directive_piece r n said begins len is new =

@@ -7,7 +7,7 @@ use Rattle.std.specs.List.{list_all}
 use Rattle.std.specs.Prelude.{if◌then◌else◌, nat_eq, nat_le, ◌||◌}
 use Rattle.c_token.specs.Bytes.{digit, is_digit, is_word, value_from}
 use Rattle.c_token.specs.Integers.{is_suffix}
-use Rattle.c_token.proofs.Lists.{drop_step}
+use Rattle.c_token.proofs.TokenLists.{drop_step}
 
 pub le-value_from : (base n : ℕ) (bytes : List ℕ) → 1 ≤ base → n ≤ value_from base n bytes
 le-value_from base n [] h = omega arith
@@ -18,7 +18,9 @@ chosen_some true x d h = cc
 chosen_some false x d h = cc
 
 -- the value is too large already
-pub value_grows : (base n d i m v : ℕ) (digits : List ℕ) → i < length digits → 1 ≤ base → d ≡ digit (get_or digits i 0) → m ≤ base * n + d → value_from base n (drop i digits) ≡ v → m ≤ v
+pub value_grows : (base n d i m v : ℕ) (digits : List ℕ) → i < length digits → 1 ≤ base
+    → d ≡ digit (get_or digits i 0) → m ≤ base * n + d → value_from base n (drop i digits) ≡ v
+    → m ≤ v
 value_grows base n d i m v digits lt some is le value =
     omega (arith, sym (ap (value_from base n) (drop_step digits i lt)) ∙ value, le-value_from base (base * n + digit (get_or digits i 0)) (drop (i + 1) digits) some, ap (λ x. base * n + x) is)
 
@@ -67,7 +69,8 @@ digit_decimal base b le h =
     (cases_Bool (is_in_range 97 102 b)))
     (cases_Bool (is_in_range 48 57 b))
 
-pub digits_words : (base : ℕ) (ds : List ℕ) → base ≤ 16 → list_all (is_digit base) ds ≡ true → list_all is_word ds ≡ true
+pub digits_words : (base : ℕ) (ds : List ℕ) → base ≤ 16 → list_all (is_digit base) ds ≡ true
+    → list_all is_word ds ≡ true
 digits_words base [] le h = refl
 digits_words base (d ∷ ds) le h = let p = and_parts (is_digit base d) (list_all (is_digit base) ds) h in and_from (is_word d) (list_all is_word ds) (based_word base d le p.0) (digits_words base ds le p.1)
 

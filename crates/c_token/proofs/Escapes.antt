@@ -5,9 +5,9 @@ use Rattle.std.specs.Option.{is_some}
 use Rattle.std.specs.Prelude.{if◌then◌else◌, nat_eq, nat_le, nat_lt, not, ◌&&◌, ◌||◌}
 use Rattle.c_token.specs.Bytes.{digit, is_digit}
 use Rattle.c_token.specs.Characters.{AreDigits, IsQuoted, is_plain, simple_escape}
-use Rattle.c_token.specs.Quotes.{escape, one_digit, quoted, three_digits, two_digits}
+use Rattle.c_token.specs.private.Quotes.{escape, one_digit, quoted, three_digits, two_digits}
 use Rattle.c_token.proofs.Digits.{digit_decimal}
-use Rattle.c_token.proofs.Quotes.{no_none, some_else, some_is_none, some_then}
+use Rattle.c_token.proofs.QuotesLemmas.{no_none, some_else, some_is_none, some_then}
 use Rattle.c_token.specs.Characters.IsQuoted.{plain, simple, octal, hexadecimal}
 
 pub same_byte : (v w : ℕ) → ◌≡◌ {A = Option ℕ} (Some v) (Some w) → v ≡ w
@@ -45,7 +45,8 @@ some_value false x v e = no_none v e
 no_letter : (a : ℕ) → is_digit 8 a ≡ true → nat_eq a 120 ≡ false
 no_letter a h = false_from_ne_true _ (λ e. both_ways (is_digit 8 a) (ap (is_digit 8) (eqb-true a 120 e)) h)
 
-octal_value : (digits : List ℕ) (v : ℕ) → AreDigits 8 3 digits v → v < 256 → quoted (92 ∷ digits) ≡ Some v
+octal_value : (digits : List ℕ) (v : ℕ) → AreDigits 8 3 digits v → v < 256
+    → quoted (92 ∷ digits) ≡ Some v
 octal_value [] v d lt = absurd (omega (arith, d.some))
 octal_value (a ∷ []) v d lt =
     let p = and_parts (is_digit 8 a) true d.all in
@@ -62,7 +63,8 @@ octal_value (a ∷ b ∷ c ∷ []) v d lt =
     cond-false _ _ _ (no_letter a p.0) ∙ cond-true _ _ _ (and_from _ _ p.0 (and_from _ _ q.0 r.0)) ∙ cond-true _ _ _ (lt-ltb (64 * digit a + 8 * digit b + digit c) 256 (omega (arith, e, lt))) ∙ ap (λ n. Some n) e
 octal_value (a ∷ b ∷ c ∷ e ∷ xs) v d lt = absurd (omega (arith, d.few))
 
-hexadecimal_value : (digits : List ℕ) (v : ℕ) → AreDigits 16 2 digits v → quoted (92 ∷ 120 ∷ digits) ≡ Some v
+hexadecimal_value : (digits : List ℕ) (v : ℕ) → AreDigits 16 2 digits v
+    → quoted (92 ∷ 120 ∷ digits) ≡ Some v
 hexadecimal_value [] v d = absurd (omega (arith, d.some))
 hexadecimal_value (a ∷ []) v d =
     let p = and_parts (is_digit 16 a) true d.all in
@@ -79,7 +81,8 @@ quoted_of inside v (simple b parts e) = ap quoted parts ∙ some_chosen (simple_
 quoted_of inside v (octal digits parts d lt) = ap quoted parts ∙ octal_value digits v d lt
 quoted_of inside v (hexadecimal digits parts d) = ap quoted parts ∙ hexadecimal_value digits v d
 
-escape_cases : (b v : ℕ) (o : Option ℕ) → simple_escape b ≡ o → (if is_some o then o else one_digit 8 b) ≡ Some v → IsQuoted (92 ∷ b ∷ []) v
+escape_cases : (b v : ℕ) (o : Option ℕ) → simple_escape b ≡ o
+    → (if is_some o then o else one_digit 8 b) ≡ Some v → IsQuoted (92 ∷ b ∷ []) v
 escape_cases b v (Some u) e h = simple b refl (e ∙ h)
 escape_cases b v None e h =
     let p = some_value (is_digit 8 b) (digit b) v h in
@@ -112,21 +115,25 @@ two_hexadecimal c d v h =
     let q = and_parts (is_digit 16 c) (is_digit 16 d) p.0 in
     hexadecimal (c ∷ d ∷ []) refl (record { some = omega arith; few = omega arith; all = and_from _ _ q.0 (and_from _ true q.1 refl); value_is = omega (arith, p.1) })
 
-three_forms : (b c v : ℕ) → (if nat_eq b 120 then one_digit 16 c else two_digits 8 b c) ≡ Some v → IsQuoted (92 ∷ b ∷ c ∷ []) v
+three_forms : (b c v : ℕ) → (if nat_eq b 120 then one_digit 16 c else two_digits 8 b c) ≡ Some v
+    → IsQuoted (92 ∷ b ∷ c ∷ []) v
 three_forms b c v h =
     ⊎_elim
     (λ (e : nat_eq b 120 ≡ true). subst (λ x. IsQuoted (92 ∷ x ∷ c ∷ []) v) (sym (eqb-true b 120 e)) (one_hexadecimal c v (sym (cond-true _ _ _ e) ∙ h)))
     (λ (e : nat_eq b 120 ≡ false). two_octal b c v (sym (cond-false _ _ _ e) ∙ h))
     (cases_Bool (nat_eq b 120))
 
-four_forms : (b c d v : ℕ) → (if nat_eq b 120 then two_digits 16 c d else three_digits b c d) ≡ Some v → IsQuoted (92 ∷ b ∷ c ∷ d ∷ []) v
+four_forms : (b c d v : ℕ)
+    → (if nat_eq b 120 then two_digits 16 c d else three_digits b c d) ≡ Some v
+    → IsQuoted (92 ∷ b ∷ c ∷ d ∷ []) v
 four_forms b c d v h =
     ⊎_elim
     (λ (e : nat_eq b 120 ≡ true). subst (λ x. IsQuoted (92 ∷ x ∷ c ∷ d ∷ []) v) (sym (eqb-true b 120 e)) (two_hexadecimal c d v (sym (cond-true _ _ _ e) ∙ h)))
     (λ (e : nat_eq b 120 ≡ false). three_octal b c d v (sym (cond-false _ _ _ e) ∙ h))
     (cases_Bool (nat_eq b 120))
 
-behind_backslash : (a v : ℕ) (xs : List ℕ) → nat_eq a 92 ≡ true → IsQuoted (92 ∷ xs) v → IsQuoted (a ∷ xs) v
+behind_backslash : (a v : ℕ) (xs : List ℕ) → nat_eq a 92 ≡ true → IsQuoted (92 ∷ xs) v
+    → IsQuoted (a ∷ xs) v
 behind_backslash a v xs t is = subst (λ x. IsQuoted (x ∷ xs) v) (sym (eqb-true a 92 t)) is
 
 pub is_quoted : (inside : List ℕ) (v : ℕ) → quoted inside ≡ Some v → IsQuoted inside v

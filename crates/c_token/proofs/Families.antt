@@ -7,26 +7,28 @@ use Rattle.std.specs.List.{list_all}
 use Rattle.std.specs.Prelude.{nat_eq, nat_le, nat_lt, ◌||◌}
 use Rattle.c_token.specs.Bytes.{first, is_separator, is_word}
 use Rattle.c_token.specs.Integers.{Constant, IsConstant, number_of}
-use Rattle.c_token.specs.Quotes.{quoted}
+use Rattle.c_token.specs.private.Quotes.{quoted}
 use Rattle.c_token.specs.Signs.{is_sign}
 use Rattle.c_token.specs.Spelling.{Spells}
-use Rattle.c_token.specs.Words.{is_word_spelled}
+use Rattle.c_token.specs.ReservedWords.{is_word_spelled}
 use Rattle.c_token.specs.declared.number.Number.{Number}
 use Rattle.c_token.specs.declared.token.Kind.{Kind}
 use Rattle.c_token.proofs.ConstantWords.{constant_digit, constant_words}
 use Rattle.c_token.proofs.Digits.{digit_word}
 use Rattle.c_token.proofs.Escapes.{quoted_of}
-use Rattle.c_token.proofs.Lists.{false_true}
-use Rattle.c_token.proofs.Runs.{first_passes}
-use Rattle.c_token.proofs.Signs.{mark_apart, mark_is, mark_no_hash, sign_mark}
-use Rattle.c_token.proofs.Words.{reserved_spelled, word_first}
+use Rattle.c_token.proofs.TokenLists.{false_true}
+use Rattle.c_token.proofs.ByteRuns.{first_passes}
+use Rattle.c_token.proofs.SignsLemmas.{mark_apart, mark_is, mark_no_hash, sign_mark}
+use Rattle.c_token.proofs.ReservedWordsLemmas.{reserved_spelled, word_first}
 use Rattle.c_token.specs.Spelling.Spells.{name, reserved, number, character, sign}
 
 -- what a token's first byte tells
 pub data Family (bytes : List ℕ) : Kind → Type 0 where
   word : {kind : Kind} → is_word_spelled bytes ≡ true → Family bytes kind
-  constant : {kind : Kind} (c : Constant) (n : Number) → IsConstant bytes c → number_of c ≡ Some n → Family bytes kind
-  quote : {kind : Kind} (inside : List ℕ) (v : ℕ) → bytes ≡ 39 ∷ inside ++ 39 ∷ [] → quoted inside ≡ Some v → Family bytes kind
+  constant : {kind : Kind} (c : Constant) (n : Number) → IsConstant bytes c → number_of c ≡ Some n
+      → Family bytes kind
+  quote : {kind : Kind} (inside : List ℕ) (v : ℕ) → bytes ≡ 39 ∷ inside ++ 39 ∷ []
+      → quoted inside ≡ Some v → Family bytes kind
   mark : {kind : Kind} → is_sign bytes ≡ true → Family bytes kind
 
 pub family : (bytes : List ℕ) (kind : Kind) → Spells bytes kind → Family bytes kind
@@ -36,7 +38,8 @@ family bytes kind (number c n k t) = constant c n k t
 family bytes kind (character inside v parts q) = quote inside v parts (quoted_of inside v q)
 family bytes kind (sign s) = mark s
 
-pub family_words : (bytes : List ℕ) (kind : Kind) → Family bytes kind → is_word (first bytes) ≡ true → list_all is_word bytes ≡ true
+pub family_words : (bytes : List ℕ) (kind : Kind) → Family bytes kind
+    → is_word (first bytes) ≡ true → list_all is_word bytes ≡ true
 family_words bytes kind (word w) h = (and_parts (list_all is_word bytes) _ (and_parts (nat_lt 0 (length bytes)) _ w).1).0
 family_words bytes kind (constant c n k t) h = constant_words bytes c k
 family_words bytes kind (quote inside v parts q) h = false_true (ap (λ l. is_word (first l)) (sym parts) ∙ h)
@@ -49,13 +52,16 @@ some_bytes bytes kind (quote inside v parts q) = omega (arith, ap length parts, 
 some_bytes [] kind (mark s) = false_true s
 some_bytes (b ∷ bytes) kind (mark s) = omega arith
 
-pub digit_family : (bytes : List ℕ) (kind : Kind) → Family bytes kind → is_ascii_digit (first bytes) ≡ true → (c : Constant) × (n : Number) × IsConstant bytes c × (number_of c ≡ Some n)
+pub digit_family : (bytes : List ℕ) (kind : Kind) → Family bytes kind
+    → is_ascii_digit (first bytes) ≡ true
+    → (c : Constant) × (n : Number) × IsConstant bytes c × (number_of c ≡ Some n)
 digit_family bytes kind (word w) h = absurd (both_ways _ (not-true (is_ascii_digit (first bytes)) (and_parts (list_all is_word bytes) _ (and_parts (nat_lt 0 (length bytes)) _ w).1).1) h)
 digit_family bytes kind (constant c n k t) h = (c, n, k, t)
 digit_family bytes kind (quote inside v parts q) h = false_true (ap (λ l. is_ascii_digit (first l)) (sym parts) ∙ h)
 digit_family bytes kind (mark s) h = absurd (both_ways _ (mark_is (first bytes) (sign_mark bytes s)).0 (digit_word (first bytes) h))
 
-pub mark_family : (bytes : List ℕ) (kind : Kind) → Family bytes kind → is_word (first bytes) ≡ false → nat_eq (first bytes) 39 ≡ false → is_sign bytes ≡ true
+pub mark_family : (bytes : List ℕ) (kind : Kind) → Family bytes kind
+    → is_word (first bytes) ≡ false → nat_eq (first bytes) 39 ≡ false → is_sign bytes ≡ true
 mark_family bytes kind (word w) plain no_quote =
     let some = ltb-true 0 (length bytes) (and_parts (nat_lt 0 (length bytes)) _ w).0 in
     absurd (both_ways _ plain (first_passes is_word bytes some (and_parts (list_all is_word bytes) _ (and_parts (nat_lt 0 (length bytes)) _ w).1).0))
@@ -63,7 +69,9 @@ mark_family bytes kind (constant c n k t) plain no_quote = absurd (both_ways _ p
 mark_family bytes kind (quote inside v parts q) plain no_quote = absurd (both_ways _ no_quote (ap (λ l. nat_eq (first l) 39) parts))
 mark_family bytes kind (mark s) plain no_quote = s
 
-pub quote_family : (bytes : List ℕ) (kind : Kind) → Family bytes kind → nat_eq (first bytes) 39 ≡ true → (v : ℕ) × (inside : List ℕ) × (bytes ≡ 39 ∷ inside ++ 39 ∷ []) × (quoted inside ≡ Some v)
+pub quote_family : (bytes : List ℕ) (kind : Kind) → Family bytes kind
+    → nat_eq (first bytes) 39 ≡ true
+    → (v : ℕ) × (inside : List ℕ) × (bytes ≡ 39 ∷ inside ++ 39 ∷ []) × (quoted inside ≡ Some v)
 quote_family bytes kind (word w) h =
     let some = ltb-true 0 (length bytes) (and_parts (nat_lt 0 (length bytes)) _ w).0 in
     let passes = first_passes is_word bytes some (and_parts (list_all is_word bytes) _ (and_parts (nat_lt 0 (length bytes)) _ w).1).0 in

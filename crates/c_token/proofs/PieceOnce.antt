@@ -12,13 +12,13 @@ use Rattle.c_token.specs.declared.token.Kind.{Kind}
 use Rattle.c_token.proofs.CommentEnds.{comment_head, comment_once, comment_opens}
 use Rattle.c_token.proofs.DirectiveLines.{directive_once}
 use Rattle.c_token.proofs.Families.{family, no_hash, some_bytes, token_no_separator}
-use Rattle.c_token.proofs.Fronts.{Fronts, front_same, fronts}
-use Rattle.c_token.proofs.Lists.{false_true, first_front, some_first}
-use Rattle.c_token.proofs.Runs.{line_taken}
+use Rattle.c_token.proofs.FrontsLemmas.{Fronts, front_same, fronts}
+use Rattle.c_token.proofs.TokenLists.{false_true, first_front, some_first}
+use Rattle.c_token.proofs.ByteRuns.{line_taken}
 use Rattle.c_token.proofs.SpellsOnce.{spells_once}
 use Rattle.c_token.specs.Pieces.IsPiece.{separator, comment, directive, token}
 use Rattle.c_token.specs.Pieces.Found.{found_token}
-use Rattle.c_token.proofs.Fronts.Fronts.{same, shorter, longer}
+use Rattle.c_token.proofs.FrontsLemmas.Fronts.{same, shorter, longer}
 
 pub front_head : (a s : List ℕ) (x : Kind) → Spells a x → first (a ++ s) ≡ first a
 front_head a s x p = first_front a s (some_bytes a x (family a x p))
@@ -29,13 +29,16 @@ directive_head at a s h = let q = (and_parts at.fresh (nat_eq (first a) 35) h).1
 abbrev pub IsSame : List ℕ → List ℕ → List ℕ → List ℕ → Found → Found → Type 0
 IsSame a b s t f g = (a ≡ b) × (s ≡ t) × (f ≡ g)
 
-tokens_same : (at : Spot) (ds : Definitions) (a b s t : List ℕ) (x y : Kind) → Spells a x → Spells b y → IsLongest a s → IsLongest b t → Fronts a b s t → IsSame a b s t (found_token (replaced ds x)) (found_token (replaced ds y))
+tokens_same : (at : Spot) (ds : Definitions) (a b s t : List ℕ) (x y : Kind) → Spells a x
+    → Spells b y → IsLongest a s → IsLongest b t → Fronts a b s t
+    → IsSame a b s t (found_token (replaced ds x)) (found_token (replaced ds y))
 tokens_same at ds a b s t x y p q l l2 (same e r) = (e, r, ap (λ z. found_token (replaced ds z)) (spells_once b x y (subst (λ w. Spells w x) e p) q))
 tokens_same at ds a b s t x y p q l l2 (shorter m some e r) = absurd (l m t y r some (subst (λ w. Spells w y) e q))
 tokens_same at ds a b s t x y p q l l2 (longer m some e r) = absurd (l2 m s x r some (subst (λ w. Spells w x) e p))
 
 -- two pieces at one place are one
-pub piece_once : (at : Spot) (ds : Definitions) (a b s t : List ℕ) (f g : Found) → a ++ s ≡ b ++ t → IsPiece at ds a s f → IsPiece at ds b t g → IsSame a b s t f g
+pub piece_once : (at : Spot) (ds : Definitions) (a b s t : List ℕ) (f g : Found) → a ++ s ≡ b ++ t
+    → IsPiece at ds a s f → IsPiece at ds b t g → IsSame a b s t f g
 piece_once at ds a b s t f g e (separator x p i) (separator y q j) =
     let h = ap (λ l. l ++ s) (sym p) ∙ e ∙ ap (λ l. l ++ t) q in
     (p ∙ ap (λ z. z ∷ []) (ap first h) ∙ sym q, ap (drop 1) h, refl)

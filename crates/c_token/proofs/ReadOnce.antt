@@ -9,7 +9,7 @@ use Rattle.c_token.specs.declared.spot.Spot.{Spot}
 use Rattle.c_token.specs.declared.token.Token.{Token}
 use Rattle.c_token.proofs.CommentEnds.{comment_opens}
 use Rattle.c_token.proofs.Families.{family, some_bytes}
-use Rattle.c_token.proofs.Lists.{false_true}
+use Rattle.c_token.proofs.TokenLists.{false_true}
 use Rattle.c_token.proofs.PieceOnce.{IsSame, directive_head, piece_once}
 use Rattle.c_token.specs.Pieces.IsPiece.{separator, comment, directive, token}
 use Rattle.c_token.specs.Text.IsReadTo.{start, piece}
@@ -28,14 +28,19 @@ next a bytes rest found = record { at = past a.at bytes; rest = rest; ds = more_
 
 pub data Reaches : State → State → Type 0 where
   stop : {a b : State} → a ≡ b → Reaches a b
-  go : {a b : State} (bytes rest : List ℕ) (found : Found) → a.rest ≡ bytes ++ rest → IsPiece a.at a.ds bytes rest found → Reaches (next a bytes rest found) b → Reaches a b
+  go : {a b : State} (bytes rest : List ℕ) (found : Found) → a.rest ≡ bytes ++ rest
+      → IsPiece a.at a.ds bytes rest found → Reaches (next a bytes rest found) b → Reaches a b
 
-reach_more : (a b : State) → Reaches a b → (bytes rest : List ℕ) (found : Found) → b.rest ≡ bytes ++ rest → IsPiece b.at b.ds bytes rest found → Reaches a (next b bytes rest found)
+reach_more : (a b : State) → Reaches a b → (bytes rest : List ℕ) (found : Found)
+    → b.rest ≡ bytes ++ rest → IsPiece b.at b.ds bytes rest found
+    → Reaches a (next b bytes rest found)
 reach_more a b (stop e) bytes rest found splits is =
     go bytes rest found (ap (λ s. s.rest) e ∙ splits) (subst (λ s. IsPiece s.at s.ds bytes rest found) (sym e) is) (stop (ap (λ s. next s bytes rest found) e))
 reach_more a b (go u v f x y z) bytes rest found splits is = go u v f x y (reach_more (next a u v f) b z bytes rest found splits is)
 
-pub reached : (text : List ℕ) (at : Spot) (rest : List ℕ) (ds : Definitions) (ts : List Token) → IsReadTo text at rest ds ts → Reaches (state beginning text nothing_defined []) (state at rest ds ts)
+pub reached : (text : List ℕ) (at : Spot) (rest : List ℕ) (ds : Definitions) (ts : List Token)
+    → IsReadTo text at rest ds ts
+    → Reaches (state beginning text nothing_defined []) (state at rest ds ts)
 reached text at rest ds ts start = stop refl
 reached text at rest ds ts (piece {at = at2} {ds = ds2} {ts = ts2} bytes rest2 found read is) =
     reach_more _ (state at2 (bytes ++ rest) ds2 ts2) (reached text at2 (bytes ++ rest) ds2 ts2 read) bytes rest found refl is
@@ -48,7 +53,8 @@ final_once : (a b : State) → IsFinal a → Reaches a b → a ≡ b
 final_once a b final (stop e) = e
 final_once a b final (go u v f x y z) = absurd (final u v f x y)
 
-next_same : (a : State) (u v s t : List ℕ) (f g : Found) → IsSame u s v t f g → next a u v f ≡ next a s t g
+next_same : (a : State) (u v s t : List ℕ) (f g : Found) → IsSame u s v t f g
+    → next a u v f ≡ next a s t g
 next_same a u v s t f g e i = next a (e.0 i) (e.1 i) (e.2 i)
 
 -- two ways from one state to final states end at one
@@ -59,7 +65,8 @@ ends_once a b c (go u v f x p z) (go s t g y q w) fb fc =
     let same = piece_once a.at a.ds u s v t f g (sym x ∙ y) p q in
     ends_once (next a u v f) b c z (subst (λ n. Reaches n c) (sym (next_same a u v s t f g same)) w) fb fc
 
-pub ended : (at : Spot) (ds : Definitions) (bytes rest : List ℕ) (found : Found) → [] ≡ bytes ++ rest → IsPiece at ds bytes rest found → ⊥
+pub ended : (at : Spot) (ds : Definitions) (bytes rest : List ℕ) (found : Found)
+    → [] ≡ bytes ++ rest → IsPiece at ds bytes rest found → ⊥
 ended at ds bytes rest found e (separator b p i) = omega (arith, ap length p, ap length e ∙ length-append bytes rest)
 ended at ds bytes rest found e (comment c) = false_true (ap opens_comment e ∙ comment_opens bytes rest c)
 ended at ds bytes rest found e (directive said h all ends d new) = omega (arith, ap first e, directive_head at bytes rest h)

@@ -1,8 +1,8 @@
 -- The longest sign at the front.
 use Rattle.std.proofs.Common.{List, [], arith, length, take, true, ℕ, ◌++◌, ◌<◌, ◌∷◌, ◌≡◌, ◌≤◌}
 use Rattle.std.proofs.lemmas.Bool.{cond-true, cond_both}
-use Rattle.c_token.specs.SignForms.{has_form, one, sign_len, three, two}
-use Rattle.c_token.proofs.Lists.{false_true}
+use Rattle.c_token.specs.private.SignForms.{has_form, one, sign_len, three, two}
+use Rattle.c_token.proofs.TokenLists.{false_true}
 
 -- no sign at the front is longer than the longest
 one_longest : (a : ℕ) → has_form (a ∷ []) ≡ true → one a ≡ 1
@@ -20,7 +20,8 @@ one_most a = let P : ℕ → Type 0 = λ n. n ≤ 1 in cond_both (has_form (a �
 two_most : (a b : ℕ) → two a b ≤ 2
 two_most a b = let P : ℕ → Type 0 = λ n. n ≤ 2 in cond_both (has_form (a ∷ b ∷ [])) 2 (one a) P (λ _. omega arith) (λ _. omega (arith, one_most a))
 
-pub sign_longest : (bytes behind : List ℕ) → has_form bytes ≡ true → length bytes ≤ sign_len (bytes ++ behind)
+pub sign_longest : (bytes behind : List ℕ) → has_form bytes ≡ true
+    → length bytes ≤ sign_len (bytes ++ behind)
 sign_longest [] behind h = false_true h
 sign_longest (a ∷ []) [] h = omega (arith, one_longest a h)
 sign_longest (a ∷ []) (b ∷ []) h = two_least a b h
@@ -37,7 +38,8 @@ one_is a xs = let P : ℕ → Type 0 = λ n. 0 < n → has_form (take n (a ∷ x
 two_is : (a b : ℕ) (xs : List ℕ) → 0 < two a b → has_form (take (two a b) (a ∷ b ∷ xs)) ≡ true
 two_is a b xs = let P : ℕ → Type 0 = λ n. 0 < n → has_form (take n (a ∷ b ∷ xs)) ≡ true in cond_both (has_form (a ∷ b ∷ [])) 2 (one a) P (λ e _. e) (λ _ h. one_is a (b ∷ xs) h)
 
-three_is : (a b c : ℕ) (xs : List ℕ) → 0 < three a b c → has_form (take (three a b c) (a ∷ b ∷ c ∷ xs)) ≡ true
+three_is : (a b c : ℕ) (xs : List ℕ) → 0 < three a b c
+    → has_form (take (three a b c) (a ∷ b ∷ c ∷ xs)) ≡ true
 three_is a b c xs = let P : ℕ → Type 0 = λ n. 0 < n → has_form (take n (a ∷ b ∷ c ∷ xs)) ≡ true in cond_both (has_form (a ∷ b ∷ c ∷ [])) 3 (two a b) P (λ e _. e) (λ _ h. two_is a b (c ∷ xs) h)
 
 pub sign_is : (rest : List ℕ) → 0 < sign_len rest → has_form (take (sign_len rest) rest) ≡ true

@@ -4,19 +4,20 @@ use Rattle.std.proofs.lemmas.Bool.{both_ways, or_from}
 use Rattle.std.specs.Char.{is_ascii_digit}
 use Rattle.std.specs.Prelude.{Err, Ok, nat_eq}
 use Rattle.c_token.specs.Bytes.{first, is_word}
-use Rattle.c_token.specs.Lexemes.{IsLexeme}
-use Rattle.c_token.specs.SignForms.{sign_len}
+use Rattle.c_token.specs.private.Lexemes.{IsLexeme}
+use Rattle.c_token.specs.private.SignForms.{sign_len}
 use Rattle.c_token.specs.Signs.{is_sign}
 use Rattle.c_token.proofs.Digits.{digit_word, no_digit}
 use Rattle.c_token.proofs.Families.{family, mark_family, some_bytes}
-use Rattle.c_token.proofs.Lists.{first_front, first_take}
+use Rattle.c_token.proofs.TokenLists.{first_front, first_take}
 use Rattle.c_token.proofs.SignLengths.{sign_fits, sign_is, sign_longest}
-use Rattle.c_token.proofs.Signs.{form_listed, listed_form}
+use Rattle.c_token.proofs.SignsLemmas.{form_listed, listed_form}
 use Rattle.c_token.specs.declared.lexeme.Lexeme.TheVariants as l
 use Rattle.c_token.specs.declared.lexeme.BadToken.TheVariants as bad
 use Rattle.c_token.specs.Spelling.Spells.{sign}
 
-pub sign_found : (rest : List ℕ) → is_word (first rest) ≡ false → nat_eq (first rest) 39 ≡ false → 0 < sign_len rest → IsLexeme rest (Ok (l.Sign, sign_len rest))
+pub sign_found : (rest : List ℕ) → is_word (first rest) ≡ false → nat_eq (first rest) 39 ≡ false
+    → 0 < sign_len rest → IsLexeme rest (Ok (l.Sign, sign_len rest))
 sign_found rest plain no_quote some =
     let n : ℕ = sign_len rest in
     let front : List ℕ = take n rest in
@@ -35,7 +36,8 @@ sign_found rest plain no_quote some =
       },
     )
 
-pub sign_fails : (rest : List ℕ) → is_word (first rest) ≡ false → nat_eq (first rest) 39 ≡ false → sign_len rest ≡ 0 → IsLexeme rest (Err bad.Byte)
+pub sign_fails : (rest : List ℕ) → is_word (first rest) ≡ false → nat_eq (first rest) 39 ≡ false
+    → sign_len rest ≡ 0 → IsLexeme rest (Err bad.Byte)
 sign_fails rest plain no_quote none = (
   λ bytes behind splits s.
       let f = family bytes s.kind s.spelled in
@@ -46,5 +48,6 @@ sign_fails rest plain no_quote none = (
   or_from (is_ascii_digit (first rest)) _ (no_digit (first rest) plain) no_quote,
 )
 
-pub sign_found_at : (rest : List ℕ) (n : ℕ) → n ≡ sign_len rest → is_word (first rest) ≡ false → nat_eq (first rest) 39 ≡ false → (n ≡ 0 → ⊥) → IsLexeme rest (Ok (l.Sign, n))
+pub sign_found_at : (rest : List ℕ) (n : ℕ) → n ≡ sign_len rest → is_word (first rest) ≡ false
+    → nat_eq (first rest) 39 ≡ false → (n ≡ 0 → ⊥) → IsLexeme rest (Ok (l.Sign, n))
 sign_found_at rest n len plain no_quote some = subst (λ m. IsLexeme rest (Ok (l.Sign, m))) (sym len) (sign_found rest plain no_quote (omega (arith, len, some)))

@@ -6,30 +6,32 @@ use Rattle.std.specs.List.{list_all}
 use Rattle.std.specs.Prelude.{nat_eq, nat_lt}
 use Rattle.c_token.specs.Bytes.{first, is_word}
 use Rattle.c_token.specs.Integers.{Constant, IsConstant, number_kind, number_of}
-use Rattle.c_token.specs.Quotes.{quoted}
+use Rattle.c_token.specs.private.Quotes.{quoted}
 use Rattle.c_token.specs.Signs.{is_sign, padded}
 use Rattle.c_token.specs.Spelling.{Spells}
-use Rattle.c_token.specs.Words.{is_reserved, is_word_spelled}
+use Rattle.c_token.specs.ReservedWords.{is_reserved, is_word_spelled}
 use Rattle.c_token.specs.declared.number.Number.{Number}
 use Rattle.c_token.specs.declared.token.Kind.{Kind}
 use Rattle.c_token.proofs.ConstantWords.{constant_digit}
-use Rattle.c_token.proofs.Constants.{front-append, same_number, same_value}
+use Rattle.c_token.proofs.ConstantTokens.{front-append, same_number, same_value}
 use Rattle.c_token.proofs.Digits.{digit_word}
 use Rattle.c_token.proofs.Escapes.{quoted_of, same_byte}
-use Rattle.c_token.proofs.Lists.{false_true}
-use Rattle.c_token.proofs.Signs.{mark_is, sign_mark}
-use Rattle.c_token.proofs.Words.{reserved_spelled, word_first}
+use Rattle.c_token.proofs.TokenLists.{false_true}
+use Rattle.c_token.proofs.SignsLemmas.{mark_is, sign_mark}
+use Rattle.c_token.proofs.ReservedWordsLemmas.{reserved_spelled, word_first}
 use Rattle.c_token.specs.declared.token.Kind.TheVariants as k
 use Rattle.c_token.specs.Spelling.Spells.{name, reserved, number, character, sign}
 
-word_kind : (a : List ℕ) (x : Kind) → Spells a x → is_word_spelled a ≡ true → x ≡ cond (is_reserved a) (k.Reserved a) (k.Name a)
+word_kind : (a : List ℕ) (x : Kind) → Spells a x → is_word_spelled a ≡ true
+    → x ≡ cond (is_reserved a) (k.Reserved a) (k.Name a)
 word_kind a x (name w r) h = sym (cond-false _ _ _ r)
 word_kind a x (reserved r) h = sym (cond-true _ _ _ r)
 word_kind a x (number c n q t) h = absurd (both_ways _ (not-true (is_ascii_digit (first a)) (and_parts (list_all is_word a) _ (and_parts (nat_lt 0 (length a)) _ h).1).1) (constant_digit a c q).1)
 word_kind a x (character i v p q) h = false_true (ap (λ l. is_word (first l)) (sym p) ∙ word_first a h)
 word_kind a x (sign s) h = absurd (both_ways _ (mark_is (first a) (sign_mark a s)).0 (word_first a h))
 
-number_kind_is : (a : List ℕ) (x : Kind) (c : Constant) (n : Number) → Spells a x → IsConstant a c → number_of c ≡ Some n → x ≡ number_kind n
+number_kind_is : (a : List ℕ) (x : Kind) (c : Constant) (n : Number) → Spells a x → IsConstant a c
+    → number_of c ≡ Some n → x ≡ number_kind n
 number_kind_is a x c n (name w r) q t = absurd (both_ways _ (not-true (is_ascii_digit (first a)) (and_parts (list_all is_word a) _ (and_parts (nat_lt 0 (length a)) _ w).1).1) (constant_digit a c q).1)
 number_kind_is a x c n (reserved r) q t = absurd (both_ways _ (not-true (is_ascii_digit (first a)) (and_parts (list_all is_word a) _ (and_parts (nat_lt 0 (length a)) _ (reserved_spelled a r)).1).1) (constant_digit a c q).1)
 number_kind_is a x c n (number d m p u) q t = ap number_kind (same_value m n (sym u ∙ same_number a d c p q ∙ t))
@@ -39,7 +41,8 @@ number_kind_is a x c n (sign s) q t = absurd (both_ways _ (mark_is (first a) (si
 inside_once : (i j : List ℕ) → 39 ∷ i ++ 39 ∷ [] ≡ 39 ∷ j ++ 39 ∷ [] → i ≡ j
 inside_once i j e = let f : i ++ 39 ∷ [] ≡ j ++ 39 ∷ [] = ap (drop 1) e in sym (front-append i 39) ∙ ap (λ l. take (length l - 1) l) f ∙ front-append j 39
 
-character_kind : (a : List ℕ) (x : Kind) (i : List ℕ) (v : ℕ) → Spells a x → a ≡ 39 ∷ i ++ 39 ∷ [] → quoted i ≡ Some v → x ≡ k.Character v
+character_kind : (a : List ℕ) (x : Kind) (i : List ℕ) (v : ℕ) → Spells a x → a ≡ 39 ∷ i ++ 39 ∷ []
+    → quoted i ≡ Some v → x ≡ k.Character v
 character_kind a x i v (name w r) p q = false_true (ap (λ l. is_word (first l)) (sym p) ∙ word_first a w)
 character_kind a x i v (reserved r) p q = false_true (ap (λ l. is_word (first l)) (sym p) ∙ word_first a (reserved_spelled a r))
 character_kind a x i v (number c n y t) p q = false_true (ap (λ l. is_ascii_digit (first l)) (sym p) ∙ (constant_digit a c y).1)

@@ -8,11 +8,12 @@ use Rattle.c_token.specs.Characters.{AreDigits, IsQuoted, simple_escape}
 use Rattle.c_token.specs.Integers.{Constant, number_kind, number_of}
 use Rattle.c_token.specs.Tokens.{IsProperKind}
 use Rattle.c_token.specs.declared.number.Number.{Number}
-use Rattle.c_token.proofs.Constants.{same_value, some_none}
+use Rattle.c_token.proofs.ConstantTokens.{same_value, some_none}
 use Rattle.c_token.proofs.Escapes.{same_byte, some_value}
 use Rattle.c_token.specs.Characters.IsQuoted.{plain, simple, octal, hexadecimal}
 
-pub proper_number : (c : Constant) (n : Number) → number_of c ≡ Some n → IsProperKind (number_kind n)
+pub proper_number : (c : Constant) (n : Number) → number_of c ≡ Some n
+    → IsProperKind (number_kind n)
 proper_number c n h =
     let P : Number → Type 0 = λ m. IsProperKind (number_kind m) in
     let small : Bool = not c.suffixed && nat_lt c.value (2 ^ 31) in
@@ -25,11 +26,13 @@ proper_number c n h =
     (cases_Bool large))
     (cases_Bool small)
 
-small_choice : (t : Bool) (u v : ℕ) (o : Option ℕ) → u ≤ 255 → (o ≡ Some v → v ≤ 255) → (if t then Some u else o) ≡ Some v → v ≤ 255
+small_choice : (t : Bool) (u v : ℕ) (o : Option ℕ) → u ≤ 255 → (o ≡ Some v → v ≤ 255)
+    → (if t then Some u else o) ≡ Some v → v ≤ 255
 small_choice true u v o le more h = omega (arith, le, same_byte u v h)
 small_choice false u v o le more h = more h
 
-mark_small : (b : ℕ) → (nat_eq b 92 || (nat_eq b 39 || (nat_eq b 34 || nat_eq b 63))) ≡ true → b ≤ 255
+mark_small : (b : ℕ) → (nat_eq b 92 || (nat_eq b 39 || (nat_eq b 34 || nat_eq b 63))) ≡ true
+    → b ≤ 255
 mark_small b h =
     ⊎_elim (λ e. omega (arith, eqb-true b 92 e)) (λ r. ⊎_elim (λ e. omega (arith, eqb-true b 39 e)) (λ s. ⊎_elim (λ e. omega (arith, eqb-true b 34 e)) (λ e. omega (arith, eqb-true b 63 e)) (or_cases (nat_eq b 34) (nat_eq b 63) s)) (or_cases (nat_eq b 39) _ r)) (or_cases (nat_eq b 92) _ h)
 

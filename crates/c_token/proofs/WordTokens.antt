@@ -7,27 +7,28 @@ use Rattle.std.specs.Char.{is_ascii_digit}
 use Rattle.std.specs.List.{list_all, prefix_len}
 use Rattle.std.specs.Prelude.{Err, Ok, nat_lt}
 use Rattle.c_token.specs.Bytes.{first, is_word}
-use Rattle.c_token.specs.Fronts.{Takes}
+use Rattle.c_token.specs.private.Fronts.{Takes}
 use Rattle.c_token.specs.Integers.{Constant, IsConstant, number_of}
-use Rattle.c_token.specs.Lexemes.{IsLexeme, IsSpelledApart, IsToken, kind_of}
-use Rattle.c_token.specs.Numbers.{IsNumber}
+use Rattle.c_token.specs.private.Lexemes.{IsLexeme, IsSpelledApart, IsToken, kind_of}
+use Rattle.c_token.specs.private.Numbers.{IsNumber}
 use Rattle.c_token.specs.Spelling.{IsLongest, Spells, StandsApart}
-use Rattle.c_token.specs.Words.{is_reserved, is_word_spelled}
+use Rattle.c_token.specs.ReservedWords.{is_reserved, is_word_spelled}
 use Rattle.c_token.specs.declared.number.Number.{Number}
 use Rattle.c_token.specs.declared.number.NumberFault.{NumberFault}
 use Rattle.c_token.proofs.ConstantWords.{constant_digit, constant_words}
-use Rattle.c_token.proofs.Constants.{same_number, some_none}
+use Rattle.c_token.proofs.ConstantTokens.{same_number, some_none}
 use Rattle.c_token.proofs.Digits.{digit_word, no_digit}
 use Rattle.c_token.proofs.Families.{digit_family, family, family_words, some_bytes}
-use Rattle.c_token.proofs.Lists.{first_front, first_take}
-use Rattle.c_token.proofs.Runs.{first_passes, run_all, run_is, run_some, run_stops}
+use Rattle.c_token.proofs.TokenLists.{first_front, first_take}
+use Rattle.c_token.proofs.ByteRuns.{first_passes, run_all, run_is, run_some, run_stops}
 use Rattle.c_token.specs.declared.token.Kind.TheVariants as k
 use Rattle.c_token.specs.declared.lexeme.Lexeme.TheVariants as l
 use Rattle.c_token.specs.declared.lexeme.BadToken.TheVariants as bad
 use Rattle.c_token.specs.Spelling.Spells.{name, reserved, number}
 use Rattle.c_token.specs.declared.number.NumberFault.TheVariants.{Malformed, Large}
 
-pub run_longest : (rest : List ℕ) → is_word (first rest) ≡ true → IsLongest (take (prefix_len is_word rest) rest) (drop (prefix_len is_word rest) rest)
+pub run_longest : (rest : List ℕ) → is_word (first rest) ≡ true
+    → IsLongest (take (prefix_len is_word rest) rest) (drop (prefix_len is_word rest) rest)
 run_longest rest begins more behind kind splits some spells =
     let n : ℕ = prefix_len is_word rest in
     let front : List ℕ = take n rest in
@@ -39,7 +40,10 @@ run_longest rest begins more behind kind splits some spells =
     let stops : is_word (first more) ≡ false = ap is_word (sym (first_front more behind some)) ∙ ap (λ l. is_word (first l)) (sym splits) ∙ run_stops is_word refl rest in
     both_ways _ stops (first_passes is_word more some more_all)
 
-pub word_found : (rest : List ℕ) → is_word (first rest) ≡ true → is_ascii_digit (first rest) ≡ false → Takes (IsToken (kind_of l.Word (take (prefix_len is_word rest) rest))) rest (prefix_len is_word rest)
+pub word_found : (rest : List ℕ) → is_word (first rest) ≡ true
+    → is_ascii_digit (first rest) ≡ false
+    → Takes (IsToken (kind_of l.Word (take (prefix_len is_word rest) rest))) rest
+    (prefix_len is_word rest)
 word_found rest begins no_digit =
     let n : ℕ = prefix_len is_word rest in
     let front : List ℕ = take n rest in
@@ -57,7 +61,9 @@ word_found rest begins no_digit =
       },
     )
 
-pub number_found : (rest : List ℕ) (n : Number) → is_ascii_digit (first rest) ≡ true → IsNumber (take (prefix_len is_word rest) rest) (Ok n) → IsLexeme rest (Ok (l.Number n, prefix_len is_word rest))
+pub number_found : (rest : List ℕ) (n : Number) → is_ascii_digit (first rest) ≡ true
+    → IsNumber (take (prefix_len is_word rest) rest) (Ok n)
+    → IsLexeme rest (Ok (l.Number n, prefix_len is_word rest))
 number_found rest n begins is = (
   run_some rest (digit_word (first rest) begins),
   prefix_len-le-length is_word rest,
@@ -69,13 +75,16 @@ number_found rest n begins is = (
 )
 
 -- a constant that stands apart is the whole run
-run_taken : (rest bytes behind : List ℕ) (c : Constant) → rest ≡ bytes ++ behind → IsConstant bytes c → StandsApart bytes behind → IsConstant (take (prefix_len is_word rest) rest) c
+run_taken : (rest bytes behind : List ℕ) (c : Constant) → rest ≡ bytes ++ behind
+    → IsConstant bytes c → StandsApart bytes behind
+    → IsConstant (take (prefix_len is_word rest) rest) c
 run_taken rest bytes behind c splits k apart =
     let e : prefix_len is_word rest ≡ length bytes = ap (prefix_len is_word) splits ∙ run_is is_word bytes behind (constant_words bytes c k) (apart (constant_digit bytes c k).1) in
     let f : take (prefix_len is_word rest) rest ≡ bytes = ap₂ (λ n l. take n l) e splits ∙ take_at bytes behind (length bytes) refl in
     subst (λ w. IsConstant w c) (sym f) k
 
-spelled_number : (rest : List ℕ) → is_ascii_digit (first rest) ≡ true → (bytes behind : List ℕ) → rest ≡ bytes ++ behind → IsSpelledApart bytes behind
+spelled_number : (rest : List ℕ) → is_ascii_digit (first rest) ≡ true → (bytes behind : List ℕ)
+    → rest ≡ bytes ++ behind → IsSpelledApart bytes behind
     → (c : Constant) × (n : Number) × IsConstant (take (prefix_len is_word rest) rest) c × (number_of c ≡ Some n)
 spelled_number rest begins bytes behind splits s =
     let f = family bytes s.kind s.spelled in
@@ -83,7 +92,8 @@ spelled_number rest begins bytes behind splits s =
     let d = digit_family bytes s.kind f (ap is_ascii_digit (sym head) ∙ begins) in
     (d.0, d.1, run_taken rest bytes behind d.0 splits d.2 s.apart, d.3)
 
-pub number_fails : (rest : List ℕ) (e : NumberFault) → is_ascii_digit (first rest) ≡ true → IsNumber (take (prefix_len is_word rest) rest) (Err e) → IsLexeme rest (Err (bad.Number e))
+pub number_fails : (rest : List ℕ) (e : NumberFault) → is_ascii_digit (first rest) ≡ true
+    → IsNumber (take (prefix_len is_word rest) rest) (Err e) → IsLexeme rest (Err (bad.Number e))
 number_fails rest Large begins is = (
   λ bytes behind splits s. let d = spelled_number rest begins bytes behind splits s in some_none d.1 _ d.3 (same_number _ _ _ d.2 is.1 ∙ is.2),
   record {
@@ -105,11 +115,14 @@ number_fails rest Malformed begins is = (
 )
 
 module _ (rest : List ℕ) (n : ℕ) (len : n ≡ prefix_len is_word rest) where
-  pub word_found_at : is_word (first rest) ≡ true → is_ascii_digit (first rest) ≡ false → IsLexeme rest (Ok (l.Word, n))
+  pub word_found_at : is_word (first rest) ≡ true → is_ascii_digit (first rest) ≡ false
+      → IsLexeme rest (Ok (l.Word, n))
   word_found_at begins no_digit = subst (λ m. IsLexeme rest (Ok (l.Word, m))) (sym len) (word_found rest begins no_digit)
 
-  pub number_found_at : (x : Number) → is_ascii_digit (first rest) ≡ true → IsNumber (take n rest) (Ok x) → IsLexeme rest (Ok (l.Number x, n))
+  pub number_found_at : (x : Number) → is_ascii_digit (first rest) ≡ true
+      → IsNumber (take n rest) (Ok x) → IsLexeme rest (Ok (l.Number x, n))
   number_found_at x begins is = subst (λ m. IsLexeme rest (Ok (l.Number x, m))) (sym len) (number_found rest x begins (subst (λ m. IsNumber (take m rest) (Ok x)) len is))
 
-  pub number_fails_at : (e : NumberFault) → is_ascii_digit (first rest) ≡ true → IsNumber (take n rest) (Err e) → IsLexeme rest (Err (bad.Number e))
+  pub number_fails_at : (e : NumberFault) → is_ascii_digit (first rest) ≡ true
+      → IsNumber (take n rest) (Err e) → IsLexeme rest (Err (bad.Number e))
   number_fails_at e begins is = number_fails rest e begins (subst (λ m. IsNumber (take m rest) (Err e)) len is)

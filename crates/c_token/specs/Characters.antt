@@ -32,5 +32,7 @@ pub record AreDigits (base most : ℕ) (digits : List ℕ) (value : ℕ) : Type 
 pub data IsQuoted (inside : List ℕ) (value : ℕ) : Type 0 where
   plain : inside ≡ value ∷ [] → is_plain value ≡ true → IsQuoted inside value
   simple : (b : ℕ) → inside ≡ 92 ∷ b ∷ [] → simple_escape b ≡ Some value → IsQuoted inside value
-  octal : (digits : List ℕ) → inside ≡ 92 ∷ digits → AreDigits 8 3 digits value → value < 256 → IsQuoted inside value
-  hexadecimal : (digits : List ℕ) → inside ≡ 92 ∷ 120 ∷ digits → AreDigits 16 2 digits value → IsQuoted inside value
+  octal : (digits : List ℕ) → inside ≡ 92 ∷ digits → AreDigits 8 3 digits value → value < 256
+      → IsQuoted inside value
+  hexadecimal : (digits : List ℕ) → inside ≡ 92 ∷ 120 ∷ digits → AreDigits 16 2 digits value
+      → IsQuoted inside value

@@ -23,5 +23,7 @@ EndsLine rest = (rest ≡ []) ⊎ (first rest ≡ 10)
 
 -- the bytes, with the rest behind them, are a comment
 pub data IsComment (bytes rest : List ℕ) : Type 0 where
-  block : (inside : List ℕ) → bytes ≡ 47 ∷ 42 ∷ inside ++ 42 ∷ 47 ∷ [] → has_close inside ≡ false → IsComment bytes rest
-  line : (inside : List ℕ) → bytes ≡ 47 ∷ 47 ∷ inside → list_all is_in_line inside ≡ true → EndsLine rest → IsComment bytes rest
+  block : (inside : List ℕ) → bytes ≡ 47 ∷ 42 ∷ inside ++ 42 ∷ 47 ∷ [] → has_close inside ≡ false
+      → IsComment bytes rest
+  line : (inside : List ℕ) → bytes ≡ 47 ∷ 47 ∷ inside → list_all is_in_line inside ≡ true
+      → EndsLine rest → IsComment bytes rest

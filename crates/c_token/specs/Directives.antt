@@ -4,7 +4,7 @@ use Rattle.std.specs.List.{list_all}
 use Rattle.c_token.specs.declared.number.Number.{Number}
 use Rattle.c_token.specs.declared.spot.Spot.{Spot}
 use Rattle.c_token.specs.Bytes.{first, is_blank}
-use Rattle.c_token.specs.Words.{is_reserved, is_word_spelled}
+use Rattle.c_token.specs.ReservedWords.{is_reserved, is_word_spelled}
 use Rattle.c_token.specs.Integers.{Constant, IsConstant, number_of}
 use Rattle.c_token.specs.Comments.{IsComment}
 
@@ -15,9 +15,12 @@ begins_directive at bytes = at.fresh && nat_eq (first bytes) 35
 -- behind the last part: blanks, tabs and comments, and among them a CR if one may still stand
 pub data IsTail : Bool → List ℕ → Type 0 where
   end : {return : Bool} {text : List ℕ} → text ≡ [] → IsTail return text
-  blank : {return : Bool} {text : List ℕ} (b : ℕ) (tail : List ℕ) → text ≡ b ∷ tail → is_blank b ≡ true → IsTail return tail → IsTail return text
-  return : {may : Bool} {text : List ℕ} (tail : List ℕ) → text ≡ 13 ∷ tail → may ≡ true → IsTail false tail → IsTail may text
-  comment : {return : Bool} {text : List ℕ} (bytes tail : List ℕ) → text ≡ bytes ++ tail → IsComment bytes tail → IsTail return tail → IsTail return text
+  blank : {return : Bool} {text : List ℕ} (b : ℕ) (tail : List ℕ) → text ≡ b ∷ tail
+      → is_blank b ≡ true → IsTail return tail → IsTail return text
+  return : {may : Bool} {text : List ℕ} (tail : List ℕ) → text ≡ 13 ∷ tail → may ≡ true
+      → IsTail false tail → IsTail may text
+  comment : {return : Bool} {text : List ℕ} (bytes tail : List ℕ) → text ≡ bytes ++ tail
+      → IsComment bytes tail → IsTail return tail → IsTail return text
 
 abbrev pub AreBlanks : List ℕ → Type 0
 AreBlanks bytes = list_all is_blank bytes ≡ true
@@ -55,5 +58,8 @@ pub record IsDefine (rest : List ℕ) (said : List ℕ × Number) : Type 0 where
 
 -- a whole line, from its `#`, and the name and number that it defines
 pub data IsDirective (line : List ℕ) : Option (List ℕ × Number) → Type 0 where
-  include : (before rest : List ℕ) → line ≡ 35 ∷ (before ++ (codes "include" ++ rest)) → AreBlanks before → IsInclude rest → IsDirective line None
-  define : (before rest : List ℕ) (said : List ℕ × Number) → line ≡ 35 ∷ (before ++ (codes "define" ++ rest)) → AreBlanks before → IsDefine rest said → IsDirective line (Some said)
+  include : (before rest : List ℕ) → line ≡ 35 ∷ (before ++ (codes "include" ++ rest))
+      → AreBlanks before → IsInclude rest → IsDirective line None
+  define : (before rest : List ℕ) (said : List ℕ × Number)
+      → line ≡ 35 ∷ (before ++ (codes "define" ++ rest)) → AreBlanks before → IsDefine rest said
+      → IsDirective line (Some said)

@@ -29,5 +29,7 @@ pub data IsNamed (at : Spot) (rest : List ℕ) : TokenFault → Type 0 where
   bad_line : begins_directive at rest ≡ true → IsNamed at rest (fault.BadLine at.place)
   open_comment : opens_comment rest ≡ true → IsNamed at rest (fault.OpenComment at.place)
   too_large : IsTooLarge rest → IsNamed at rest (fault.TooLarge at.place)
-  bad_literal : begins_literal rest ≡ true → (IsTooLarge rest → ⊥) → IsNamed at rest (fault.BadLiteral at.place)
-  bad_byte : begins_directive at rest ≡ false → opens_comment rest ≡ false → begins_literal rest ≡ false → IsNamed at rest (fault.BadByte at.place)
+  bad_literal : begins_literal rest ≡ true → (IsTooLarge rest → ⊥)
+      → IsNamed at rest (fault.BadLiteral at.place)
+  bad_byte : begins_directive at rest ≡ false → opens_comment rest ≡ false
+      → begins_literal rest ≡ false → IsNamed at rest (fault.BadByte at.place)

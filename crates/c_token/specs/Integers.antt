@@ -48,7 +48,8 @@ pub record IsConstant (bytes : List ℕ) (c : Constant) : Type 0 where
 -- 10. Any other is too large, since types wider than int are left out.
 abbrev pub number_of : Constant → Option Number
 number_of c =
-    if not c.suffixed && nat_lt c.value (2 ^ 31) then Some (record { unsigned = false; value = c.value })
+    if not c.suffixed && nat_lt c.value (2 ^ 31)
+    then Some (record { unsigned = false; value = c.value })
     else (if nat_le (2 ^ 32) c.value || (not c.suffixed && nat_eq c.base 10) then None
     else Some (record { unsigned = true; value = c.value }))
 

@@ -50,11 +50,14 @@ IsNew ds (Some d) = ds d.0 ≡ None
 
 -- the bytes, at a spot and with the rest behind them, are a piece that gives this
 pub data IsPiece (at : Spot) (ds : Definitions) (bytes rest : List ℕ) : Found → Type 0 where
-  separator : (b : ℕ) → bytes ≡ b ∷ [] → is_separator b ≡ true → IsPiece at ds bytes rest found_nothing
+  separator : (b : ℕ) → bytes ≡ b ∷ [] → is_separator b ≡ true
+      → IsPiece at ds bytes rest found_nothing
   comment : IsComment bytes rest → IsPiece at ds bytes rest found_nothing
-  directive : (said : Option (List ℕ × Number)) → begins_directive at bytes ≡ true → list_all is_in_line bytes ≡ true → EndsLine rest
+  directive : (said : Option (List ℕ × Number)) → begins_directive at bytes ≡ true
+      → list_all is_in_line bytes ≡ true → EndsLine rest
       → IsDirective bytes said → IsNew ds said → IsPiece at ds bytes rest (found_by said)
-  token : (kind : Kind) → opens_comment (bytes ++ rest) ≡ false → Spells bytes kind → IsLongest bytes rest → StandsApart bytes rest
+  token : (kind : Kind) → opens_comment (bytes ++ rest) ≡ false → Spells bytes kind
+      → IsLongest bytes rest → StandsApart bytes rest
       → IsPiece at ds bytes rest (found_token (replaced ds kind))
 
 abbrev pub more_definitions : Found → Definitions → Definitions

@@ -6,10 +6,13 @@ use Rattle.std.specs.Str.{bytes_eq}
 abbrev pub signs : List (List ℕ)
 signs =
     codes "+" ∷ codes "-" ∷ codes "*" ∷ codes "/" ∷ codes "%" ∷ codes "++" ∷ codes "--"
-    ∷ codes "=" ∷ codes "+=" ∷ codes "-=" ∷ codes "*=" ∷ codes "/=" ∷ codes "%=" ∷ codes "<<=" ∷ codes ">>=" ∷ codes "&=" ∷ codes "|=" ∷ codes "^="
+    ∷ codes "=" ∷ codes "+=" ∷ codes "-=" ∷ codes "*=" ∷ codes "/=" ∷ codes "%=" ∷ codes "<<="
+    ∷ codes ">>=" ∷ codes "&=" ∷ codes "|=" ∷ codes "^="
     ∷ codes "==" ∷ codes "!=" ∷ codes "<" ∷ codes ">" ∷ codes "<=" ∷ codes ">="
-    ∷ codes "<<" ∷ codes ">>" ∷ codes "&" ∷ codes "|" ∷ codes "^" ∷ codes "~" ∷ codes "!" ∷ codes "&&" ∷ codes "||"
-    ∷ codes "?" ∷ codes ":" ∷ codes ";" ∷ codes "," ∷ codes "(" ∷ codes ")" ∷ codes "[" ∷ codes "]" ∷ codes "{" ∷ codes "}" ∷ []
+    ∷ codes "<<" ∷ codes ">>" ∷ codes "&" ∷ codes "|" ∷ codes "^" ∷ codes "~" ∷ codes "!"
+    ∷ codes "&&" ∷ codes "||"
+    ∷ codes "?" ∷ codes ":" ∷ codes ";" ∷ codes "," ∷ codes "(" ∷ codes ")" ∷ codes "[" ∷ codes "]"
+    ∷ codes "{" ∷ codes "}" ∷ []
 
 abbrev pub is_sign : List ℕ → Bool
 is_sign bytes = list_any (λ sign. bytes_eq sign bytes) signs

@@ -9,8 +9,12 @@ beginning = record { place = record { line = 1; column = 1 }; fresh = true }
 -- behind one byte: a LF ends a line, and only blanks and tabs leave a line fresh
 abbrev pub after : Spot → ℕ → Spot
 after at b =
-    if nat_eq b 10 then record { place = record { line = at.place.line + 1; column = 1 }; fresh = true }
-    else record { place = record { line = at.place.line; column = at.place.column + 1 }; fresh = at.fresh && is_blank b }
+    if nat_eq b 10 then record
+    { place = record { line = at.place.line + 1; column = 1 }; fresh = true }
+    else record {
+      place = record { line = at.place.line; column = at.place.column + 1 };
+      fresh = at.fresh && is_blank b;
+    }
 
 -- behind all of them
 abbrev pub past : Spot → List ℕ → Spot

@@ -16,7 +16,8 @@ pub data IsReadTo (text : List ℕ) : Spot → List ℕ → Definitions → List
   start : IsReadTo text beginning text nothing_defined []
   piece : {at : Spot} {ds : Definitions} {ts : List Token} (bytes rest : List ℕ) (found : Found)
       → IsReadTo text at (bytes ++ rest) ds ts → IsPiece at ds bytes rest found
-      → IsReadTo text (past at bytes) rest (more_definitions found ds) (more_tokens found at.place ts)
+      → IsReadTo text (past at bytes) rest (more_definitions found ds)
+      (more_tokens found at.place ts)
 
 -- the tokens of the text, the last one End where the text ends
 pub record AreTokensOf (text : List ℕ) (tokens : List Token) : Type 0 where
@@ -28,7 +29,9 @@ pub record AreTokensOf (text : List ℕ) (tokens : List Token) : Type 0 where
 
 -- something is left, and no piece begins it
 abbrev pub IsStuck : Spot → Definitions → List ℕ → Type 0
-IsStuck at ds rest = (0 < length rest) × ((bytes behind : List ℕ) (found : Found) → rest ≡ bytes ++ behind → IsPiece at ds bytes behind found → ⊥)
+IsStuck at ds rest = (0 < length rest)
+    × ((bytes behind : List ℕ) (found : Found) → rest ≡ bytes ++ behind
+    → IsPiece at ds bytes behind found → ⊥)
 
 -- the fault of the text: the first place up to which it is read and at which it can't go on
 pub record IsFaultOf (text : List ℕ) (reason : TokenFault) : Type 0 where

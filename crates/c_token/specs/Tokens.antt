@@ -6,12 +6,13 @@ use Rattle.c_tree.specs.declared.ctype.CType.TheVariants.{Int, Unsigned}
 use Rattle.c_token.specs.declared.token.Kind.{Kind}
 use Rattle.c_token.specs.declared.token.Kind.TheVariants as k
 use Rattle.c_token.specs.declared.token.Token.{Token}
-use Rattle.c_token.specs.Words.{is_reserved, is_word_spelled}
+use Rattle.c_token.specs.ReservedWords.{is_reserved, is_word_spelled}
 use Rattle.c_token.specs.Signs.{is_sign, padded}
 
 -- an int below 2 ^ 31, or an unsigned below 2 ^ 32
 abbrev pub IsProperNumber : CType → ℕ → Type 0
-IsProperNumber type value = ((type ≡ Int) × (value < 2 ^ 31)) ⊎ ((type ≡ Unsigned) × (value < 2 ^ 32))
+IsProperNumber type value =
+    ((type ≡ Int) × (value < 2 ^ 31)) ⊎ ((type ≡ Unsigned) × (value < 2 ^ 32))
 
 abbrev pub IsProperKind : Kind → Type 0
 IsProperKind (k.Name name) = (is_word_spelled name ≡ true) × (is_reserved name ≡ false)

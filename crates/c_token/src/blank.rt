@@ -4,7 +4,7 @@ ghost use Rattle.std.specs.Prelude.{◌≡◌, drop, Option};
 ghost use Rattle.std.specs.List.{prefix_len};
 ghost use Rattle.std.specs.Option.{option_map};
 ghost use Rattle.c_token.specs.Bytes.{is_blank};
-ghost use Rattle.c_token.specs.Fronts.{word_behind};
+ghost use Rattle.c_token.specs.private.Fronts.{word_behind};
 
 use crate::byte::is_blank;
 use crate::word::word_len;
@@ -16,7 +16,7 @@ fn blank_len(rest: &[u8]) -> usize
 }
 
 /// What stands behind the blanks and tabs at the front.
-#[tactic(auto, using(crate::proofs::Runs::runs))]
+#[tactic(auto, using(crate::proofs::ByteRuns::runs))]
 pub fn after_blanks(rest: &[u8]) -> &[u8]
     ensures { result.now ≡ drop (prefix_len is_blank rest.now) rest.now }
 {

@@ -2,14 +2,15 @@
 
 ghost use Rattle.std.specs.Prelude.{◌≡◌, ◌≤◌, ◌<◌, ◌+◌, ◌*◌, if◌then◌else◌, nat_lt, MatchOption, ℕ};
 ghost use Rattle.c_token.specs.Characters.{is_plain, simple_escape};
-ghost use Rattle.c_token.specs.Fronts.{Takes, TakesNone};
-ghost use Rattle.c_token.specs.Quotes.{IsCharacter, character_in, quoted, escape};
+ghost use Rattle.c_token.specs.private.Fronts.{Takes, TakesNone};
+ghost use Rattle.c_token.specs.private.Quotes.{IsCharacter, character_in, quoted, escape};
 
 use crate::byte::digit_of;
 
 /// The character constant at the front: its value, and how many bytes it takes.
 pub fn character(rest: &[u8]) -> Option<(u8, usize)>
-    ensures { MatchOption result ((value : ℕ) → TakesNone (IsCharacter value) rest.now) (λ found. Takes (IsCharacter found.0) rest.now found.1) }
+    ensures { MatchOption result ((value : ℕ) → TakesNone (IsCharacter value) rest.now)
+        (λ found. Takes (IsCharacter found.0) rest.now found.1) }
 {
     for len in 3..7 {
         if let Some(value) = character_in(rest, len) {
@@ -91,7 +92,8 @@ fn simple_escape(byte: u8) -> Option<u8>
 
 fn octal(high: u32, middle: u32, low: u32) -> Option<u8>
     requires { (high < 8) × (middle < 8) × (low < 8) }
-    ensures { result ≡ (if nat_lt (64 * high + 8 * middle + low) 256 then Some (64 * high + 8 * middle + low) else None) }
+    ensures { result ≡ (if nat_lt (64 * high + 8 * middle + low) 256
+        then Some (64 * high + 8 * middle + low) else None) }
 {
     let value = 64 * high + 8 * middle + low;
     if value < 256 { Some(value as u8) } else { None }

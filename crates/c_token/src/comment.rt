@@ -2,9 +2,9 @@
 
 ghost use Rattle.std.specs.Prelude.{◌≡◌, ◌≤◌, ◌-◌, ◌++◌, ◌∷◌, [], true, false, length, take, MatchOption};
 ghost use Rattle.std.specs.List.{prefix_len};
-ghost use Rattle.c_token.specs.Fronts.{Takes, TakesNone};
+ghost use Rattle.c_token.specs.private.Fronts.{Takes, TakesNone};
 ghost use Rattle.c_token.specs.Comments.{opens_comment, is_in_line, has_close, IsComment};
-ghost use Rattle.c_token.specs.Lines.{IsClosed};
+ghost use Rattle.c_token.specs.private.Lines.{IsClosed};
 
 pub fn opens_comment(rest: &[u8]) -> bool
     ensures { result ≡ opens_comment rest.now }
@@ -13,7 +13,7 @@ pub fn opens_comment(rest: &[u8]) -> bool
 }
 
 /// How many bytes the comment at the front takes; none if it isn't closed.
-#[tactic(auto, using(crate::proofs::Comments::comments))]
+#[tactic(auto, using(crate::proofs::CommentsLemmas::comments))]
 pub fn comment_len(rest: &[u8]) -> Option<usize>
     requires { opens_comment rest.now ≡ true }
     ensures { MatchOption result (TakesNone IsComment rest.now) (λ n. Takes IsComment rest.now n) }

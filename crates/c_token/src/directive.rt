@@ -2,10 +2,10 @@
 
 ghost use Rattle.std.specs.Prelude.{◌≡◌, ◌<◌, ◌++◌, ◌≢◌, ◌&&◌, ℕ, List, Option, MatchBool, MatchOption, length, not, slice_index};
 ghost use Rattle.std.specs.Char.{is_ascii_digit};
-ghost use Rattle.c_token.specs.Words.{is_reserved};
+ghost use Rattle.c_token.specs.ReservedWords.{is_reserved};
 ghost use Rattle.c_token.specs.Directives.{IsInclude};
-ghost use Rattle.c_token.specs.Lines.{SaysNothing, SaysOnly, DefinesNothing, DefinesOnly};
-ghost use Rattle.c_token.specs.Readers.{said_by};
+ghost use Rattle.c_token.specs.private.Lines.{SaysNothing, SaysOnly, DefinesNothing, DefinesOnly};
+ghost use Rattle.c_token.specs.private.Readers.{said_by};
 
 use crate::blank::{after_blanks, word_behind_blank};
 use crate::number::{Number, number_of};
@@ -38,7 +38,8 @@ pub fn directive_of(line: &[u8]) -> Option<Directive<'_>>
 
 /// What stands behind a front.
 fn behind<'a>(text: &'a [u8], front: &[u8]) -> Option<&'a [u8]>
-    ensures { MatchOption result ((rest : List ℕ) → text.now ≢ front.now ++ rest) (λ x. text.now ≡ front.now ++ x.now) }
+    ensures { MatchOption result ((rest : List ℕ) → text.now ≢ front.now ++ rest)
+        (λ x. text.now ≡ front.now ++ x.now) }
 {
     text.strip_prefix(front)
 }
@@ -57,7 +58,8 @@ fn is_include(rest: &[u8]) -> bool
 }
 
 fn define_of(rest: &[u8]) -> Option<(&[u8], Number)>
-    ensures { MatchOption result (DefinesNothing rest.now) (λ x. DefinesOnly rest.now (x.0.now, x.1)) }
+    ensures { MatchOption result (DefinesNothing rest.now)
+        (λ x. DefinesOnly rest.now (x.0.now, x.1)) }
 {
     let (name, rest) = word_behind_blank(rest)?;
     let (integer, tail) = word_behind_blank(rest)?;
@@ -76,7 +78,8 @@ fn define_of(rest: &[u8]) -> Option<(&[u8], Number)>
 /// A word is a name that isn't reserved.
 fn is_name(word: &[u8]) -> bool
     requires { 0 < length word.now }
-    ensures { result ≡ (not (is_ascii_digit (slice_index word.now 0)) && not (is_reserved word.now)) }
+    ensures { result ≡ (not (is_ascii_digit (slice_index word.now 0))
+        && not (is_reserved word.now)) }
 {
     !word[0].is_ascii_digit() && !is_reserved(word)
 }

@@ -2,7 +2,7 @@
 
 ghost use Rattle.std.specs.Prelude.{◌≡◌, ◌<◌, false, length};
 ghost use Rattle.c_token.specs.Comments.{opens_comment};
-ghost use Rattle.c_token.specs.Lexemes.{IsLexeme, fault_at};
+ghost use Rattle.c_token.specs.private.Lexemes.{IsLexeme, fault_at};
 
 use crate::byte::is_word;
 use crate::character::character;

@@ -45,7 +45,10 @@ pub fn tokens(alloc: Global, text: &[u8]) -> Result<Vec<Token>, TokenFault>
 
 /// A text has one answer: its tokens, or its first fault.
 pub fn one_answer()
-    ensures tokens { (text : List ℕ) (a b : List Token) → AreTokensOf text a → AreTokensOf text b → a ≡ b }
-    ensures faults { (text : List ℕ) (r q : TokenFault) → IsFaultOf text r → IsFaultOf text q → r ≡ q }
-    ensures apart { (text : List ℕ) (a : List Token) (r : TokenFault) → AreTokensOf text a → IsFaultOf text r → ⊥ }
+    ensures tokens { (text : List ℕ) (a b : List Token) → AreTokensOf text a → AreTokensOf text b
+        → a ≡ b }
+    ensures faults { (text : List ℕ) (r q : TokenFault) → IsFaultOf text r → IsFaultOf text q
+        → r ≡ q }
+    ensures apart { (text : List ℕ) (a : List Token) (r : TokenFault) → AreTokensOf text a
+        → IsFaultOf text r → ⊥ }
 {}

@@ -4,7 +4,7 @@ ghost use Rattle.std.specs.Prelude.{◌≡◌, ◌≤◌, ◌<◌, ◌+◌, ◌*
 ghost use Rattle.std.specs.List.{list_all};
 ghost use Rattle.c_token.specs.Bytes.{is_digit, value_from};
 ghost use Rattle.c_token.specs.Integers.{number_kind, is_hexadecimal, base_of, digits_of};
-ghost use Rattle.c_token.specs.Numbers.{IsTyped, IsNumber, is_suffixed, body_of, are_digits};
+ghost use Rattle.c_token.specs.private.Numbers.{IsTyped, IsNumber, is_suffixed, body_of, are_digits};
 
 use crate::byte::digit_of;
 use crate::token::Kind;
@@ -59,7 +59,8 @@ pub fn number_of(word: &[u8]) -> Result<Number, NumberFault>
 fn number_from(suffixed: bool, base: u32, digits: &[u8]) -> Result<Number, NumberFault>
     requires in_range { (1 ≤ base) × (base ≤ 16) }
     requires spelled { list_all (is_digit base) digits.now ≡ true }
-    ensures { IsTyped (record { base = base; suffixed = suffixed; value = value_from base 0 digits.now }) result }
+    ensures { IsTyped (record
+        { base = base; suffixed = suffixed; value = value_from base 0 digits.now }) result }
 {
     match value_of(digits, base) {
         Some(value) => typed(suffixed, base, value),
@@ -149,7 +150,8 @@ fn typed(suffixed: bool, base: u32, value: u32) -> Result<Number, NumberFault>
 fn value_of(digits: &[u8], base: u32) -> Option<u32>
     requires in_range { (1 ≤ base) × (base ≤ 16) }
     requires all_digits { list_all (is_digit base) digits.now ≡ true }
-    ensures { MatchOption result (2 ^ 32 ≤ value_from base 0 digits.now) (λ v. v ≡ value_from base 0 digits.now) }
+    ensures { MatchOption result (2 ^ 32 ≤ value_from base 0 digits.now)
+        (λ v. v ≡ value_from base 0 digits.now) }
 {
     let mut value: u32 = 0;
     for byte in digits {

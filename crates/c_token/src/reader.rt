@@ -33,8 +33,8 @@ impl<'a> Reader<'a> {
     ghost use Rattle.c_token.specs.Comments.{opens_comment};
     ghost use Rattle.c_token.specs.Directives.{begins_directive};
     ghost use Rattle.c_token.specs.Pieces.{replaced};
-    ghost use Rattle.c_token.specs.Lexemes.{kind_of};
-    ghost use Rattle.c_token.specs.Readers.{StepOf, HasRoom, HasRead, Skips, names_of};
+    ghost use Rattle.c_token.specs.private.Lexemes.{kind_of};
+    ghost use Rattle.c_token.specs.private.Readers.{StepOf, HasRoom, HasRead, Skips, names_of};
 
     pub fn new(alloc: Global, text: &'a [u8]) -> Self
         requires { length text.now ≤ 1048576 }
@@ -128,7 +128,9 @@ impl<'a> Reader<'a> {
 
     /// What a lexeme of these bytes is read as.
     fn kind_of(&self, lexeme: Lexeme, bytes: &'a [u8]) -> Result<Kind, TokenFault>
-        ensures { MatchResult result (λ kind. kind ≡ replaced (names_of self.now.defines) (kind_of lexeme bytes.now)) (λ e. e ≡ TokenFault.OutOfMemory) }
+        ensures { MatchResult result
+            (λ kind. kind ≡ replaced (names_of self.now.defines) (kind_of lexeme bytes.now))
+            (λ e. e ≡ TokenFault.OutOfMemory) }
     {
         Ok(match lexeme {
             Lexeme::Word => {
@@ -159,7 +161,10 @@ impl<'a> Reader<'a> {
 
     /// The tokens of a text that is read to its end.
     pub fn finish(self) -> Result<Vec<Token>, TokenFault>
-        ensures { MatchResult result (λ v. v.items ≡ self.entry.found.items ++ record { kind = Kind.End; place = self.entry.spot.place } ∷ []) (λ e. e ≡ TokenFault.OutOfMemory) }
+        ensures { MatchResult result
+            (λ v. v.items ≡ self.entry.found.items
+            ++ record { kind = Kind.End; place = self.entry.spot.place } ∷ [])
+            (λ e. e ≡ TokenFault.OutOfMemory) }
     {
         let Reader {
             mut found,

@@ -2,7 +2,7 @@
 
 ghost use Rattle.std.specs.Prelude.{◌≡◌, codes};
 ghost use Rattle.c_token.specs.Signs.{padded};
-ghost use Rattle.c_token.specs.SignForms.{sign_len, three, two, one, is_one_of};
+ghost use Rattle.c_token.specs.private.SignForms.{sign_len, three, two, one, is_one_of};
 
 /// How many bytes the longest sign at the front takes; 0 if none stands there.
 pub fn sign_len(rest: &[u8]) -> usize

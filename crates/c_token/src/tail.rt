@@ -2,7 +2,7 @@
 
 ghost use Rattle.std.specs.Prelude.{◌≡◌, ◌<◌, ◌≤◌, true, drop, length, MatchBool, MatchOption};
 ghost use Rattle.c_token.specs.Directives.{IsTail};
-ghost use Rattle.c_token.specs.Lines.{GoesOn};
+ghost use Rattle.c_token.specs.private.Lines.{GoesOn};
 
 use crate::byte::is_blank;
 use crate::comment::{comment_len, opens_comment};
@@ -28,7 +28,8 @@ pub fn is_tail(tail: &[u8]) -> bool
 /// How many bytes the next piece of a tail takes, and whether a CR may stand behind it.
 fn tail_piece(rest: &[u8], may_return: bool) -> Option<(usize, bool)>
     requires { 0 < length rest.now }
-    ensures { MatchOption result (IsTail may_return rest.now → ⊥) (λ x. GoesOn may_return rest.now x.0 x.1) }
+    ensures { MatchOption result (IsTail may_return rest.now → ⊥)
+        (λ x. GoesOn may_return rest.now x.0 x.1) }
 {
     if is_blank(rest[0]) {
         Some((1, may_return))

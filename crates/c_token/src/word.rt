@@ -4,7 +4,7 @@ ghost use Rattle.std.specs.Prelude.{◌≡◌};
 ghost use Rattle.std.specs.List.{prefix_len, list_any};
 ghost use Rattle.std.specs.Str.{bytes_eq};
 ghost use Rattle.c_token.specs.Bytes.{is_word};
-ghost use Rattle.c_token.specs.Words.{is_reserved};
+ghost use Rattle.c_token.specs.ReservedWords.{is_reserved};
 
 use crate::byte::is_word;
 

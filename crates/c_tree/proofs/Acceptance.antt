@@ -5,7 +5,7 @@ use Rattle.c_tree.specs.declared.breach.Breach.{Breach}
 use Rattle.c_tree.specs.declared.breach.Ranking.TheVariants.{ForChecks}
 use Rattle.c_tree.specs.declared.tree.Tree.{Tree}
 use Rattle.c_tree.specs.Breach.{least_of, nothing_found}
-use Rattle.c_tree.specs.View.{parts}
+use Rattle.c_tree.specs.View.{items_of}
 use Rattle.c_tree.specs.Scope.{otherwise}
 use Rattle.c_tree.specs.Accepted.{is_none_broken, is_accepted, Accepted, text_breaches, has_main, main_fault, text_fault}
 use Rattle.c_tree.proofs.LeastBreach.{least_none}
@@ -27,15 +27,16 @@ none_left : (bs : List Breach) → is_none_broken bs ≡ true → bs ≡ []
 none_left [] h = refl
 none_left (b ∷ bs) h = cc
 
-pub accepted_without : (tree : Tree) → text_breaches (parts tree) ≡ [] → has_main (parts tree) ≡ true → Accepted tree
+pub accepted_without : (tree : Tree) → text_breaches (items_of tree) ≡ []
+    → has_main (items_of tree) ≡ true → Accepted tree
 unfolding is_accepted
-accepted_without tree h main = truth _ (and_true _ _ (none_broken (text_breaches (parts tree)) h) main)
+accepted_without tree h main = truth _ (and_true _ _ (none_broken (text_breaches (items_of tree)) h) main)
 
-pub unbroken : (tree : Tree) → Accepted tree → text_breaches (parts tree) ≡ []
+pub unbroken : (tree : Tree) → Accepted tree → text_breaches (items_of tree) ≡ []
 unfolding is_accepted
-unbroken tree h = none_left (text_breaches (parts tree)) (left_true _ _ (true_of _ h))
+unbroken tree h = none_left (text_breaches (items_of tree)) (left_true _ _ (true_of _ h))
 
-pub with_main : (tree : Tree) → Accepted tree → has_main (parts tree) ≡ true
+pub with_main : (tree : Tree) → Accepted tree → has_main (items_of tree) ≡ true
 unfolding is_accepted
 with_main tree h = right_true _ _ (true_of _ h)
 
@@ -51,11 +52,11 @@ main_there : (b : Bool) → main_fault b ≡ None → b ≡ true
 main_there true h = refl
 main_there false h = cc
 
-pub accepted_faultless : (tree : Tree) → text_fault (parts tree) ≡ None → Accepted tree
+pub accepted_faultless : (tree : Tree) → text_fault (items_of tree) ≡ None → Accepted tree
 accepted_faultless tree h =
-    let least = first_none (least_of (nothing_found ForChecks) (text_breaches (parts tree))).found (main_fault (has_main (parts tree))) h in
-    let main = second_none (least_of (nothing_found ForChecks) (text_breaches (parts tree))).found (main_fault (has_main (parts tree))) h in
-    accepted_without tree (least_none (nothing_found ForChecks) (text_breaches (parts tree)) least) (main_there (has_main (parts tree)) main)
+    let least = first_none (least_of (nothing_found ForChecks) (text_breaches (items_of tree))).found (main_fault (has_main (items_of tree))) h in
+    let main = second_none (least_of (nothing_found ForChecks) (text_breaches (items_of tree))).found (main_fault (has_main (items_of tree))) h in
+    accepted_without tree (least_none (nothing_found ForChecks) (text_breaches (items_of tree)) least) (main_there (has_main (items_of tree)) main)
 
-pub faultless : (tree : Tree) → Accepted tree → text_fault (parts tree) ≡ None
+pub faultless : (tree : Tree) → Accepted tree → text_fault (items_of tree) ≡ None
 faultless tree h = let none = unbroken tree h in let main = with_main tree h in rw (none, main) refl

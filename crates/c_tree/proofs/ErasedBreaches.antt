@@ -5,8 +5,13 @@ use Rattle.std.proofs.lemmas.List.{map-append}
 use Rattle.c_tree.specs.declared.breach.Breach.{Breach}
 use Rattle.c_tree.specs.declared.place.Place.{Place}
 use Rattle.c_tree.specs.declared.tree.Tree.{Tree}
-use Rattle.c_tree.specs.Syntax.{Shape, Statement, Nothing, Evaluated, Declared, Compound, Marked, Branch, Fork, Loop, LoopOnce, LoopFrom, Returned, BreakOut, GoOn, Statements, NoStatement, Then, Function, Part, Globals, Routine}
-use Rattle.c_tree.specs.View.{parts}
+use Rattle.c_tree.specs.Ty.{Ty}
+use Rattle.c_tree.specs.Stmt.{Stmt, Stmts}
+use Rattle.c_tree.specs.Stmt as stmt
+use Rattle.c_tree.specs.Fun.{Fun}
+use Rattle.c_tree.specs.Item.{Item}
+use Rattle.c_tree.specs.Item as item
+use Rattle.c_tree.specs.View.{items_of}
 use Rattle.c_tree.specs.Scope.{Scope, entered, empty_scope}
 use Rattle.c_tree.specs.Statements.{behind, behind_beginning, test_breaches, optional_test_breaches, unused_breaches, beginning_breaches, statement_breaches, body_breaches}
 use Rattle.c_tree.specs.Regions.{edges, body_edges, function_edges, text_edges}
@@ -19,98 +24,105 @@ use Rattle.c_tree.proofs.NoBreach.{nil_left, nil_right}
 nil_both : (xs ys : List Breach) → xs ≡ [] → ys ≡ [] → xs ++ ys ≡ []
 nil_both xs ys h k = ap₂ (λ a b. a ++ b) h k
 
-behind_erased : (s : Statement) (scope : Scope) → behind (erased s) scope ≡ behind s scope
-behind_erased (Nothing at) scope = refl
-behind_erased (Evaluated e at) scope = refl
-behind_erased (Declared ds at) scope = refl
-behind_erased (Compound body at) scope = refl
-behind_erased (Marked m at) scope = refl
-behind_erased (Branch c s at) scope = refl
-behind_erased (Fork c s other at) scope = refl
-behind_erased (Loop c s at) scope = refl
-behind_erased (LoopOnce s c at) scope = refl
-behind_erased (LoopFrom f c d s at) scope = refl
-behind_erased (Returned value at) scope = refl
-behind_erased (BreakOut at) scope = refl
-behind_erased (GoOn at) scope = refl
+behind_erased : (s : Stmt) (scope : Scope) → behind (erased s) scope ≡ behind s scope
+behind_erased (stmt.Empty at) scope = refl
+behind_erased (stmt.Expr e at) scope = refl
+behind_erased (stmt.Vars ds at) scope = refl
+behind_erased (stmt.Block body at) scope = refl
+behind_erased (stmt.Marker m at) scope = refl
+behind_erased (stmt.If c s at) scope = refl
+behind_erased (stmt.IfElse c s other at) scope = refl
+behind_erased (stmt.While c s at) scope = refl
+behind_erased (stmt.Do s c at) scope = refl
+behind_erased (stmt.For f c d s at) scope = refl
+behind_erased (stmt.Return value at) scope = refl
+behind_erased (stmt.Break at) scope = refl
+behind_erased (stmt.Continue at) scope = refl
 
-module _ (result : Shape) where
+module _ (result : Ty) where
   mutual
-    right_erased : (loop : Bool) (s : Statement) (scope : Scope) → statement_breaches result loop s scope ≡ [] → statement_breaches result loop (erased s) scope ≡ []
-    right_erased loop (Nothing at) scope h = refl
-    right_erased loop (Evaluated e at) scope h = h
-    right_erased loop (Declared ds at) scope h = h
-    right_erased loop (Compound body at) scope h = all_right_erased loop body (entered scope) h
-    right_erased loop (Marked m at) scope h = refl
-    right_erased loop (Branch c s at) scope h =
+    right_erased : (loop : Bool) (s : Stmt) (scope : Scope)
+        → statement_breaches result loop s scope ≡ []
+        → statement_breaches result loop (erased s) scope ≡ []
+    right_erased loop (stmt.Empty at) scope h = refl
+    right_erased loop (stmt.Expr e at) scope h = h
+    right_erased loop (stmt.Vars ds at) scope h = h
+    right_erased loop (stmt.Block body at) scope h = all_right_erased loop body (entered scope) h
+    right_erased loop (stmt.Marker m at) scope h = refl
+    right_erased loop (stmt.If c s at) scope h =
         nil_both _ _ (nil_left (test_breaches scope c at) _ h) (right_erased loop s (entered scope) (nil_right (test_breaches scope c at) _ h))
-    right_erased loop (Fork c s other at) scope h =
+    right_erased loop (stmt.IfElse c s other at) scope h =
         let two = nil_right (test_breaches scope c at) _ h in
         nil_both _ _ (nil_left (test_breaches scope c at) _ h)
         (nil_both _ _ (right_erased loop s (entered scope) (nil_left _ _ two)) (right_erased loop other (entered scope) (nil_right (statement_breaches result loop s (entered scope)) _ two)))
-    right_erased loop (Loop c s at) scope h =
+    right_erased loop (stmt.While c s at) scope h =
         nil_both _ _ (nil_left (test_breaches scope c at) _ h) (right_erased true s (entered scope) (nil_right (test_breaches scope c at) _ h))
-    right_erased loop (LoopOnce s c at) scope h =
+    right_erased loop (stmt.Do s c at) scope h =
         nil_both _ _ (right_erased true s (entered scope) (nil_left _ _ h)) (nil_right (statement_breaches result true s (entered scope)) _ h)
-    right_erased loop (LoopFrom f c d s at) scope h =
+    right_erased loop (stmt.For f c d s at) scope h =
         let inside = behind_beginning f (entered scope) in
         let two = nil_right (beginning_breaches (entered scope) f) _ h in
         let three = nil_right (optional_test_breaches inside c at) _ two in
         nil_both _ _ (nil_left (beginning_breaches (entered scope) f) _ h)
         (nil_both _ _ (nil_left (optional_test_breaches inside c at) _ two)
         (nil_both _ _ (nil_left (unused_breaches inside d) _ three) (right_erased true s (entered inside) (nil_right (unused_breaches inside d) _ three))))
-    right_erased loop (Returned value at) scope h = h
-    right_erased loop (BreakOut at) scope h = h
-    right_erased loop (GoOn at) scope h = h
+    right_erased loop (stmt.Return value at) scope h = h
+    right_erased loop (stmt.Break at) scope h = h
+    right_erased loop (stmt.Continue at) scope h = h
 
-    all_right_erased : (loop : Bool) (body : Statements) (scope : Scope) → body_breaches result loop body scope ≡ [] → body_breaches result loop (erased_all body) scope ≡ []
-    all_right_erased loop NoStatement scope h = refl
-    all_right_erased loop (Then s rest) scope h =
+    all_right_erased : (loop : Bool) (body : Stmts) (scope : Scope)
+        → body_breaches result loop body scope ≡ []
+        → body_breaches result loop (erased_all body) scope ≡ []
+    all_right_erased loop stmt.NoMore scope h = refl
+    all_right_erased loop (stmt.More s rest) scope h =
         nil_both _ _ (right_erased loop s scope (nil_left _ _ h))
         (subst (λ inner. body_breaches result loop (erased_all rest) inner ≡ []) (sym (behind_erased s scope)) (all_right_erased loop rest (behind s scope) (nil_right (statement_breaches result loop s scope) _ h)))
 
 mutual
-  no_edges : (block : Option Place) (s : Statement) → edges block (erased s) ≡ []
-  no_edges block (Nothing at) = refl
-  no_edges block (Evaluated e at) = refl
-  no_edges block (Declared ds at) = refl
-  no_edges block (Compound body at) = no_edges_in (Some at) body
-  no_edges block (Marked m at) = refl
-  no_edges block (Branch c s at) = no_edges None s
-  no_edges block (Fork c s other at) = ap₂ (λ a b. a ++ b) (no_edges None s) (no_edges None other)
-  no_edges block (Loop c s at) = no_edges None s
-  no_edges block (LoopOnce s c at) = no_edges None s
-  no_edges block (LoopFrom f c d s at) = no_edges None s
-  no_edges block (Returned value at) = refl
-  no_edges block (BreakOut at) = refl
-  no_edges block (GoOn at) = refl
+  no_edges : (block : Option Place) (s : Stmt) → edges block (erased s) ≡ []
+  no_edges block (stmt.Empty at) = refl
+  no_edges block (stmt.Expr e at) = refl
+  no_edges block (stmt.Vars ds at) = refl
+  no_edges block (stmt.Block body at) = no_edges_in (Some at) body
+  no_edges block (stmt.Marker m at) = refl
+  no_edges block (stmt.If c s at) = no_edges None s
+  no_edges block (stmt.IfElse c s other at) = ap₂ (λ a b. a ++ b) (no_edges None s) (no_edges None other)
+  no_edges block (stmt.While c s at) = no_edges None s
+  no_edges block (stmt.Do s c at) = no_edges None s
+  no_edges block (stmt.For f c d s at) = no_edges None s
+  no_edges block (stmt.Return value at) = refl
+  no_edges block (stmt.Break at) = refl
+  no_edges block (stmt.Continue at) = refl
 
-  no_edges_in : (block : Option Place) (body : Statements) → body_edges block (erased_all body) ≡ []
-  no_edges_in block NoStatement = refl
-  no_edges_in block (Then s rest) = ap₂ (λ a b. a ++ b) (no_edges block s) (no_edges_in block rest)
+  no_edges_in : (block : Option Place) (body : Stmts) → body_edges block (erased_all body) ≡ []
+  no_edges_in block stmt.NoMore = refl
+  no_edges_in block (stmt.More s rest) = ap₂ (λ a b. a ++ b) (no_edges block s) (no_edges_in block rest)
 
-no_function_edges : (at : Place) (body : Option Statements) → function_edges at (option_map erased_all body) ≡ []
+no_function_edges : (at : Place) (body : Option Stmts)
+    → function_edges at (option_map erased_all body) ≡ []
 no_function_edges at None = refl
 no_function_edges at (Some body) = no_edges_in (Some at) body
 
-no_text_edges : (ps : List Part) → text_edges (erased_text ps) ≡ []
+no_text_edges : (ps : List Item) → text_edges (erased_text ps) ≡ []
 no_text_edges [] = refl
-no_text_edges (Globals keep ds ∷ rest) = no_text_edges rest
-no_text_edges (Routine f ∷ rest) = ap₂ (λ a b. a ++ b) (no_function_edges f.place f.body) (no_text_edges rest)
+no_text_edges (item.Vars keep ds ∷ rest) = no_text_edges rest
+no_text_edges (item.Fun f ∷ rest) = ap₂ (λ a b. a ++ b) (no_function_edges f.place f.body) (no_text_edges rest)
 
-has_body : (body : Option Statements) → is_some (option_map erased_all body) ≡ is_some body
+has_body : (body : Option Stmts) → is_some (option_map erased_all body) ≡ is_some body
 has_body None = refl
 has_body (Some body) = refl
 
-defined_by : (name : List ℕ) (p : Part) → is_defined_by name (erased_part p) ≡ is_defined_by name p
-defined_by name (Globals keep ds) = refl
-defined_by name (Routine f) = let same = has_body f.body in rw same refl
+defined_by : (name : List ℕ) (p : Item) → is_defined_by name (erased_part p) ≡ is_defined_by name p
+defined_by name (item.Vars keep ds) = refl
+defined_by name (item.Fun f) = let same = has_body f.body in rw same refl
 
-defined_all : (ps : List Part) (name : List ℕ) → is_defined (erased_text ps) name ≡ is_defined ps name
+defined_all : (ps : List Item) (name : List ℕ)
+    → is_defined (erased_text ps) name ≡ is_defined ps name
 defined_all [] name = refl
 defined_all (p ∷ ps) name = ap₂ (λ a b. a || b) (defined_by name p) (defined_all ps name)
 
-right_definition : (before : Bool) (scope : Scope) (f : Function) (body : Option Statements) → definition_breaches before scope f body ≡ []
+right_definition : (before : Bool) (scope : Scope) (f : Fun) (body : Option Stmts)
+    → definition_breaches before scope f body ≡ []
     → definition_breaches before scope (record f { body = option_map erased_all f.body }) (option_map erased_all body) ≡ []
 right_definition before scope f None h = refl
 right_definition before scope f (Some body) h =
@@ -119,10 +131,13 @@ right_definition before scope f (Some body) h =
     (nil_both _ _ (nil_left (parameters_breaches (entered scope) f.parameters) _ two)
     (all_right_erased (result_shape f) false body (with_parameters f.parameters (entered scope)) (nil_right (parameters_breaches (entered scope) f.parameters) _ two)))
 
-same_function : (all : List Part) (f : Function) (scope : Scope) → with_function (erased_text all) (record f { body = option_map erased_all f.body }) scope ≡ with_function all f scope
+same_function : (all : List Item) (f : Fun) (scope : Scope)
+    → with_function (erased_text all) (record f { body = option_map erased_all f.body }) scope
+    ≡ with_function all f scope
 same_function all f scope = let same = defined_all all f.name in rw same refl
 
-right_function : (all before : List Part) (scope : Scope) (f : Function) → function_breaches all before scope f ≡ []
+right_function : (all before : List Item) (scope : Scope) (f : Fun)
+    → function_breaches all before scope f ≡ []
     → function_breaches (erased_text all) (erased_text before) scope (record f { body = option_map erased_all f.body }) ≡ []
 right_function all before scope f h =
     let again = again_breaches (scope.inner f.name) (result_shape f) (parameter_shapes f.parameters) f.place in
@@ -134,15 +149,20 @@ right_function all before scope f h =
     let moved : definition_breaches (is_defined (erased_text before) f.name) (with_function (erased_text all) bare scope) bare bare.body ≡ [] = rw (here, known) own in
     nil_both _ _ (nil_left again _ h) (nil_both _ _ (nil_left (unless _ _ f.place) _ two) moved)
 
-right_part : (all before : List Part) (scope : Scope) (p : Part) → part_breaches all before scope p ≡ [] → part_breaches (erased_text all) (erased_text before) scope (erased_part p) ≡ []
-right_part all before scope (Globals keep ds) h = h
-right_part all before scope (Routine f) h = right_function all before scope f h
+right_part : (all before : List Item) (scope : Scope) (p : Item)
+    → part_breaches all before scope p ≡ []
+    → part_breaches (erased_text all) (erased_text before) scope (erased_part p) ≡ []
+right_part all before scope (item.Vars keep ds) h = h
+right_part all before scope (item.Fun f) h = right_function all before scope f h
 
-same_behind : (all : List Part) (p : Part) (scope : Scope) → behind_part (erased_text all) (erased_part p) scope ≡ behind_part all p scope
-same_behind all (Globals keep ds) scope = refl
-same_behind all (Routine f) scope = same_function all f scope
+same_behind : (all : List Item) (p : Item) (scope : Scope)
+    → behind_part (erased_text all) (erased_part p) scope ≡ behind_part all p scope
+same_behind all (item.Vars keep ds) scope = refl
+same_behind all (item.Fun f) scope = same_function all f scope
 
-right_parts : (all before : List Part) (scope : Scope) (ps : List Part) → parts_breaches all before scope ps ≡ [] → parts_breaches (erased_text all) (erased_text before) scope (erased_text ps) ≡ []
+right_parts : (all before : List Item) (scope : Scope) (ps : List Item)
+    → parts_breaches all before scope ps ≡ []
+    → parts_breaches (erased_text all) (erased_text before) scope (erased_text ps) ≡ []
 right_parts all before scope [] h = refl
 right_parts all before scope (p ∷ ps) h =
     let rest = right_parts all (before ++ p ∷ []) (behind_part all p scope) ps (nil_right (part_breaches all before scope p) _ h) in
@@ -150,22 +170,23 @@ right_parts all before scope (p ∷ ps) h =
     let front : erased_text (before ++ p ∷ []) ≡ erased_text before ++ erased_part p ∷ [] = map-append erased_part before (p ∷ []) in
     nil_both _ _ (right_part all before scope p (nil_left _ _ h)) (rw (same, sym front) rest)
 
-right_text : (ps : List Part) → text_breaches ps ≡ [] → text_breaches (erased_text ps) ≡ []
+right_text : (ps : List Item) → text_breaches ps ≡ [] → text_breaches (erased_text ps) ≡ []
 right_text ps h =
     let none = no_text_edges ps in
     nil_both _ _ (right_parts ps [] empty_scope ps (nil_left _ _ h)) (rw none refl)
 
-main_stays : (p : Part) → is_main (erased_part p) ≡ is_main p
-main_stays (Globals keep ds) = refl
-main_stays (Routine f) = let same = has_body f.body in rw same refl
+main_stays : (p : Item) → is_main (erased_part p) ≡ is_main p
+main_stays (item.Vars keep ds) = refl
+main_stays (item.Fun f) = let same = has_body f.body in rw same refl
 
-mains_stay : (ps : List Part) → has_main (erased_text ps) ≡ has_main ps
+mains_stay : (ps : List Item) → has_main (erased_text ps) ≡ has_main ps
 mains_stay [] = refl
 mains_stay (p ∷ ps) = ap₂ (λ a b. a || b) (main_stays p) (mains_stay ps)
 
-pub erased_accepted : (tree bare : Tree) → parts bare ≡ erased_text (parts tree) → Accepted tree → Accepted bare
+pub erased_accepted : (tree bare : Tree) → items_of bare ≡ erased_text (items_of tree)
+    → Accepted tree → Accepted bare
 erased_accepted tree bare e h =
-    let right = right_text (parts tree) (unbroken tree h) in
-    let main = mains_stay (parts tree) in
+    let right = right_text (items_of tree) (unbroken tree h) in
+    let main = mains_stay (items_of tree) in
     let there = with_main tree h in
     accepted_without bare (rw e right) (rw (e, main) there)

@@ -1,5 +1,5 @@
 -- Breaches, and the least of them.
-use Rattle.std.specs.Prelude.{ℕ, ◌==◌, Bool, true, false, ◌&&◌, ◌||◌, List, [], ◌∷◌, Option, Some, None, if◌then◌else◌, nat_lt}
+use Rattle.std.specs.Prelude.{◌≡◌, ℕ, ◌==◌, Bool, true, false, ◌&&◌, ◌||◌, List, [], ◌∷◌, Option, Some, None, if◌then◌else◌, nat_lt}
 use Rattle.c_tree.specs.declared.breach.Breach.{Breach}
 use Rattle.c_tree.specs.declared.breach.Broken.{Broken}
 use Rattle.c_tree.specs.declared.breach.Broken.TheVariants.{Mismatch, NotAPlace, NotConstant, Unknown, Arguments, Twice, Marker, NoMain, TooManyParameters}
@@ -49,7 +49,8 @@ abbrev pub is_before : Ranking → Breach → Breach → Bool
 is_before by a b =
     nat_lt a.place.line b.place.line
     || (a.place.line == b.place.line
-    && (nat_lt a.place.column b.place.column || (a.place.column == b.place.column && nat_lt (number by a.kind) (number by b.kind))))
+    && (nat_lt a.place.column b.place.column
+    || (a.place.column == b.place.column && nat_lt (number by a.kind) (number by b.kind))))
 
 abbrev pub nearer : Ranking → Option Breach → Breach → Option Breach
 nearer by None b = Some b
@@ -63,6 +64,10 @@ lesser least b = record least { found = nearer least.by least.found b }
 abbrev pub least_of : Least → List Breach → Least
 least_of least [] = least
 least_of least (b ∷ bs) = least_of (lesser least b) bs
+
+-- some breaches are added to the least that was found
+abbrev pub Adds : Least → Least → List Breach → Type 0
+Adds old new more = new ≡ least_of old more
 
 abbrev pub nothing_found : Ranking → Least
 nothing_found by = record { by = by; found = None }

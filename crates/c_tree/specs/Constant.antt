@@ -7,12 +7,15 @@ use Rattle.c_tree.specs.declared.operator.Binary.TheVariants as binary
 use Rattle.c_tree.specs.declared.operator.Unary.{Unary}
 use Rattle.c_tree.specs.declared.operator.Unary.TheVariants as unary
 use Rattle.c_tree.specs.declared.place.Place.{Place}
-use Rattle.c_tree.specs.Syntax.{Shape, IntShape, Expression, Variable, Numeral, Letter, EndOfFile, Prefix, Stepped, Converted, Infix, Choice, Stored, Element, Called}
+use Rattle.c_tree.specs.Ty.{Ty}
+use Rattle.c_tree.specs.Ty as ty
+use Rattle.c_tree.specs.Expr.{Expr}
+use Rattle.c_tree.specs.Expr as expr
 use Rattle.c_tree.specs.Scope.{Scope, look}
 use Rattle.c_tree.specs.Breach.{breach, unless}
 use Rattle.c_tree.specs.Shapes.{is_integer, is_unsigned, promoted, common}
 use Rattle.c_tree.specs.Breaches.{breaches}
-use Rattle.c_tree.specs.Words.{infix_word, prefix_word, converted, truth, given}
+use Rattle.c_tree.specs.Arithmetic.{binary_word, unary_word, converted, truth, given}
 
 -- Forms of a constant are integer and character constants, EOF, casts to integers, `+ - ~ !`, binary operators and `?:`.
 
@@ -21,9 +24,9 @@ is_arithmetic unary.At = false
 is_arithmetic unary.Address = false
 is_arithmetic _ = true
 
-abbrev pub prefix_shape : Unary → Shape → Shape
-prefix_shape unary.Not t = IntShape
-prefix_shape _ t = promoted t
+abbrev pub unary_shape : Unary → Ty → Ty
+unary_shape unary.Not t = ty.Int
+unary_shape _ t = promoted t
 
 abbrev pub is_shift : Binary → Bool
 is_shift binary.Left = true
@@ -42,23 +45,25 @@ gives_truth binary.LessEqual = true
 gives_truth binary.GreaterEqual = true
 gives_truth _ = false
 
-abbrev pub infix_shape : Binary → Shape → Shape → Shape
-infix_shape op t u = if gives_truth op then IntShape else if is_shift op then promoted t else common t u
+abbrev pub binary_shape : Binary → Ty → Ty → Ty
+binary_shape op t u = if gives_truth op then ty.Int else if is_shift op then promoted t
+    else common t u
 
-abbrev pub integer_shape : Shape → Shape
-integer_shape t = if is_integer t then t else IntShape
+abbrev pub integer_shape : Ty → Ty
+integer_shape t = if is_integer t then t else ty.Int
 
 -- the type of a constant
-abbrev pub constant_shape : Expression → Shape
-constant_shape (Numeral shape n at) = integer_shape shape
-constant_shape (Prefix op a at) = if is_arithmetic op then prefix_shape op (constant_shape a) else IntShape
-constant_shape (Converted to a at) = integer_shape to
-constant_shape (Infix op a b at) = infix_shape op (constant_shape a) (constant_shape b)
-constant_shape (Choice c a b at) = common (constant_shape a) (constant_shape b)
-constant_shape _ = IntShape
+abbrev pub constant_shape : Expr → Ty
+constant_shape (expr.Number shape n at) = integer_shape shape
+constant_shape (expr.Unary op a at) =
+    if is_arithmetic op then unary_shape op (constant_shape a) else ty.Int
+constant_shape (expr.Cast to a at) = integer_shape to
+constant_shape (expr.Binary op a b at) = binary_shape op (constant_shape a) (constant_shape b)
+constant_shape (expr.Conditional c a b at) = common (constant_shape a) (constant_shape b)
+constant_shape _ = ty.Int
 
 -- whether the arithmetic of an operator on two integers is unsigned
-abbrev pub is_unsigned_act : Binary → Shape → Shape → Bool
+abbrev pub is_unsigned_act : Binary → Ty → Ty → Bool
 is_unsigned_act op t u = is_unsigned t || (not (is_shift op) && is_unsigned u)
 
 abbrev pub on_one : (ℕ → Option ℕ) → Option ℕ → Option ℕ
@@ -81,10 +86,11 @@ abbrev pub needs_second : Binary → Option ℕ → Bool
 needs_second op None = not (is_logic op)
 needs_second op (Some x) = not (decides op x)
 
-abbrev pub infix_value : Binary → Bool → Option ℕ → Option ℕ → Option ℕ
-infix_value op unsigned None y = None
-infix_value op unsigned (Some x) y =
-    if decides op x then Some (truth (not (x == 0))) else on_one (λ y. given (infix_word op unsigned x y)) y
+abbrev pub binary_value : Binary → Bool → Option ℕ → Option ℕ → Option ℕ
+binary_value op unsigned None y = None
+binary_value op unsigned (Some x) y =
+    if decides op x then Some (truth (not (x == 0)))
+    else on_one (λ y. given (binary_word op unsigned x y)) y
 
 -- one of two is evaluated
 abbrev pub chosen : {A : Type 0} → A → Option ℕ → A → A → A
@@ -92,14 +98,19 @@ chosen none None a b = none
 chosen none (Some x) a b = if x == 0 then b else a
 
 -- the value of a constant, where no act that it evaluates is undefined
-abbrev pub value_of : Expression → Option ℕ
-value_of (Numeral shape n at) = if is_integer shape then Some n else None
-value_of (Letter code at) = Some code
-value_of (EndOfFile at) = Some 4294967295
-value_of (Prefix op a at) = if is_arithmetic op then on_one (λ x. given (prefix_word op (is_unsigned (constant_shape a)) x)) (value_of a) else None
-value_of (Converted to a at) = if is_integer to then on_one (λ x. Some (converted to x)) (value_of a) else None
-value_of (Infix op a b at) = infix_value op (is_unsigned_act op (constant_shape a) (constant_shape b)) (value_of a) (value_of b)
-value_of (Choice c a b at) = chosen None (value_of c) (value_of a) (value_of b)
+abbrev pub value_of : Expr → Option ℕ
+value_of (expr.Number shape n at) = if is_integer shape then Some n else None
+value_of (expr.Character code at) = Some code
+value_of (expr.Eof at) = Some 4294967295
+value_of (expr.Unary op a at) =
+    if is_arithmetic op then on_one (λ x. given (unary_word op (is_unsigned (constant_shape a)) x))
+    (value_of a) else None
+value_of (expr.Cast to a at) =
+    if is_integer to then on_one (λ x. Some (converted to x)) (value_of a) else None
+value_of (expr.Binary op a b at) =
+    binary_value op (is_unsigned_act op (constant_shape a) (constant_shape b)) (value_of a)
+    (value_of b)
+value_of (expr.Conditional c a b at) = chosen None (value_of c) (value_of a) (value_of b)
 value_of _ = None
 
 -- both operands have values, or the first alone decides
@@ -119,32 +130,36 @@ foreign_name None name at = breach NotConstant at
 foreign_name (Some scope) name at = name_breach (is_some (look scope name)) at
 
 -- what another node that is no form of a constant breaks
-abbrev pub foreign : Option Scope → Expression → Place → List Breach
+abbrev pub foreign : Option Scope → Expr → Place → List Breach
 foreign None e at = breach NotConstant at
 foreign (Some scope) e at = breaches scope true e ++ breach NotConstant at
 
 module _ (scope : Option Scope) where
   -- the breaches where a constant is needed: the outermost nodes that are no form of one, and the undefined acts that are evaluated;
   -- `live` says that the expression is evaluated; with a scope the breaches within those outermost nodes count too
-  abbrev pub constant_breaches : Bool → Expression → List Breach
-  constant_breaches live (Numeral shape n at) = if is_integer shape then [] else foreign scope (Numeral shape n at) at
-  constant_breaches live (Letter code at) = []
-  constant_breaches live (EndOfFile at) = []
-  constant_breaches live (Prefix op a at) =
+  abbrev pub constant_breaches : Bool → Expr → List Breach
+  constant_breaches live (expr.Number shape n at) =
+      if is_integer shape then [] else foreign scope (expr.Number shape n at) at
+  constant_breaches live (expr.Character code at) = []
+  constant_breaches live (expr.Eof at) = []
+  constant_breaches live (expr.Unary op a at) =
       if is_arithmetic op
-      then constant_breaches live a ++ act_breaches live (is_some (value_of a)) (value_of (Prefix op a at)) at
-      else foreign scope (Prefix op a at) at
-  constant_breaches live (Converted to a at) = if is_integer to then constant_breaches live a else foreign scope (Converted to a at) at
-  constant_breaches live (Infix op a b at) =
+      then constant_breaches live a
+      ++ act_breaches live (is_some (value_of a)) (value_of (expr.Unary op a at)) at
+      else foreign scope (expr.Unary op a at) at
+  constant_breaches live (expr.Cast to a at) =
+      if is_integer to then constant_breaches live a else foreign scope (expr.Cast to a at) at
+  constant_breaches live (expr.Binary op a b at) =
       constant_breaches live a
       ++ (constant_breaches (live && needs_second op (value_of a)) b
-      ++ act_breaches live (is_ready op (value_of a) (value_of b)) (value_of (Infix op a b at)) at)
-  constant_breaches live (Choice c a b at) =
+      ++ act_breaches live (is_ready op (value_of a) (value_of b))
+      (value_of (expr.Binary op a b at)) at)
+  constant_breaches live (expr.Conditional c a b at) =
       constant_breaches live c
       ++ (constant_breaches (live && chosen false (value_of c) true false) a
       ++ constant_breaches (live && chosen false (value_of c) false true) b)
-  constant_breaches live (Variable name at) = foreign_name scope name at
-  constant_breaches live (Stepped how a at) = foreign scope (Stepped how a at) at
-  constant_breaches live (Stored how a b at) = foreign scope (Stored how a b at) at
-  constant_breaches live (Element a b at) = foreign scope (Element a b at) at
-  constant_breaches live (Called name all at) = foreign scope (Called name all at) at
+  constant_breaches live (expr.Name name at) = foreign_name scope name at
+  constant_breaches live (expr.Step how a at) = foreign scope (expr.Step how a at) at
+  constant_breaches live (expr.Assign how a b at) = foreign scope (expr.Assign how a b at) at
+  constant_breaches live (expr.Index a b at) = foreign scope (expr.Index a b at) at
+  constant_breaches live (expr.Call name all at) = foreign scope (expr.Call name all at) at

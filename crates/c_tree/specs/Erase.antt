@@ -1,31 +1,34 @@
 -- A text without its markers.
 use Rattle.std.specs.Prelude.{List, map, option_map}
-use Rattle.c_tree.specs.Syntax.{Statement, Nothing, Evaluated, Declared, Compound, Marked, Branch, Fork, Loop, LoopOnce, LoopFrom, Returned, BreakOut, GoOn, Statements, NoStatement, Then, Part, Globals, Routine}
+use Rattle.c_tree.specs.Stmt.{Stmt, Stmts}
+use Rattle.c_tree.specs.Stmt as stmt
+use Rattle.c_tree.specs.Item.{Item}
+use Rattle.c_tree.specs.Item as item
 
 -- each marker becomes the empty statement at its place, and all else stays
 abbrev mutual
-  pub erased : Statement → Statement
-  erased (Nothing at) = Nothing at
-  erased (Evaluated e at) = Evaluated e at
-  erased (Declared ds at) = Declared ds at
-  erased (Compound body at) = Compound (erased_all body) at
-  erased (Marked m at) = Nothing at
-  erased (Branch c s at) = Branch c (erased s) at
-  erased (Fork c s other at) = Fork c (erased s) (erased other) at
-  erased (Loop c s at) = Loop c (erased s) at
-  erased (LoopOnce s c at) = LoopOnce (erased s) c at
-  erased (LoopFrom f c d s at) = LoopFrom f c d (erased s) at
-  erased (Returned value at) = Returned value at
-  erased (BreakOut at) = BreakOut at
-  erased (GoOn at) = GoOn at
+  pub erased : Stmt → Stmt
+  erased (stmt.Empty at) = stmt.Empty at
+  erased (stmt.Expr e at) = stmt.Expr e at
+  erased (stmt.Vars ds at) = stmt.Vars ds at
+  erased (stmt.Block body at) = stmt.Block (erased_all body) at
+  erased (stmt.Marker m at) = stmt.Empty at
+  erased (stmt.If c s at) = stmt.If c (erased s) at
+  erased (stmt.IfElse c s other at) = stmt.IfElse c (erased s) (erased other) at
+  erased (stmt.While c s at) = stmt.While c (erased s) at
+  erased (stmt.Do s c at) = stmt.Do (erased s) c at
+  erased (stmt.For f c d s at) = stmt.For f c d (erased s) at
+  erased (stmt.Return value at) = stmt.Return value at
+  erased (stmt.Break at) = stmt.Break at
+  erased (stmt.Continue at) = stmt.Continue at
 
-  pub erased_all : Statements → Statements
-  erased_all NoStatement = NoStatement
-  erased_all (Then s rest) = Then (erased s) (erased_all rest)
+  pub erased_all : Stmts → Stmts
+  erased_all stmt.NoMore = stmt.NoMore
+  erased_all (stmt.More s rest) = stmt.More (erased s) (erased_all rest)
 
-abbrev pub erased_part : Part → Part
-erased_part (Globals keep ds) = Globals keep ds
-erased_part (Routine f) = Routine (record f { body = option_map erased_all f.body })
+abbrev pub erased_part : Item → Item
+erased_part (item.Vars keep ds) = item.Vars keep ds
+erased_part (item.Fun f) = item.Fun (record f { body = option_map erased_all f.body })
 
-abbrev pub erased_text : List Part → List Part
+abbrev pub erased_text : List Item → List Item
 erased_text = map erased_part

@@ -7,7 +7,10 @@ use Rattle.c_tree.specs.declared.operator.Unary.TheVariants as unary
 use Rattle.c_tree.specs.declared.operator.Step.{Step}
 use Rattle.c_tree.specs.declared.place.Place.{Place}
 use Rattle.c_tree.specs.declared.tree.Callee.{Callee}
-use Rattle.c_tree.specs.Syntax.{Shape, IntShape, PointerTo, Expression, Variable, Numeral, Letter, EndOfFile, Prefix, Stepped, Converted, Infix, Choice, Stored, Element, Called, Expressions, NoMore, Next}
+use Rattle.c_tree.specs.Ty.{Ty}
+use Rattle.c_tree.specs.Ty as ty
+use Rattle.c_tree.specs.Expr.{Expr, Exprs}
+use Rattle.c_tree.specs.Expr as expr
 use Rattle.c_tree.specs.Scope.{ObjectOf, FunctionOf, Scope, look}
 use Rattle.c_tree.specs.Shapes.{is_integer, is_scalar, is_void, decayed, promoted, common}
 use Rattle.c_tree.specs.Rules.{is_nought, is_place, takes, is_sum}
@@ -50,46 +53,103 @@ pub data IsLogic : Binary → Type 0 where
 
 mutual
   -- the type of an expression as it stands
-  pub data HasType : Scope → Expression → Shape → Type 0 where
-    OfVariable : (scope : Scope) (name : List ℕ) (at : Place) (t : Shape) → look scope name ≡ Some (ObjectOf t) → HasType scope (Variable name at) t
-    OfNumeral : (scope : Scope) (t : Shape) (n : ℕ) (at : Place) → HasType scope (Numeral t n at) t
-    OfLetter : (scope : Scope) (code : ℕ) (at : Place) → HasType scope (Letter code at) IntShape
-    OfEndOfFile : (scope : Scope) (at : Place) → HasType scope (EndOfFile at) IntShape
-    OfSign : (scope : Scope) (op : Unary) (a : Expression) (at : Place) (t : Shape) → IsSign op → HasValue scope a t → is_integer t ≡ true → HasType scope (Prefix op a at) (promoted t)
-    OfNot : (scope : Scope) (a : Expression) (at : Place) (t : Shape) → HasValue scope a t → is_scalar t ≡ true → HasType scope (Prefix unary.Not a at) IntShape
-    OfContents : (scope : Scope) (a : Expression) (at : Place) (t : Shape) → HasValue scope a (PointerTo t) → HasType scope (Prefix unary.At a at) t
-    OfAddress : (scope : Scope) (a : Expression) (at : Place) (t : Shape) → is_place a ≡ true → HasType scope a t → HasType scope (Prefix unary.Address a at) (PointerTo t)
-    OfStep : (scope : Scope) (how : Step) (a : Expression) (at : Place) (t : Shape) → is_place a ≡ true → HasType scope a t → is_scalar t ≡ true → HasType scope (Stepped how a at) t
-    OfCast : (scope : Scope) (to : Shape) (a : Expression) (at : Place) (t : Shape) → is_integer to ≡ true → HasValue scope a t → is_integer t ≡ true → HasType scope (Converted to a at) to
-    OfArithmetic : (scope : Scope) (op : Binary) (a b : Expression) (at : Place) (t u : Shape) → IsArithmetic op → HasValue scope a t → HasValue scope b u → is_integer t ≡ true → is_integer u ≡ true → HasType scope (Infix op a b at) (common t u)
-    OfShift : (scope : Scope) (op : Binary) (a b : Expression) (at : Place) (t u : Shape) → IsShift op → HasValue scope a t → HasValue scope b u → is_integer t ≡ true → is_integer u ≡ true → HasType scope (Infix op a b at) (promoted t)
-    OfPointerPlus : (scope : Scope) (a b : Expression) (at : Place) (t u : Shape) → HasValue scope a (PointerTo t) → HasValue scope b u → is_integer u ≡ true → HasType scope (Infix binary.Plus a b at) (PointerTo t)
-    OfPlusPointer : (scope : Scope) (a b : Expression) (at : Place) (t u : Shape) → HasValue scope a t → HasValue scope b (PointerTo u) → is_integer t ≡ true → HasType scope (Infix binary.Plus a b at) (PointerTo u)
-    OfPointerMinus : (scope : Scope) (a b : Expression) (at : Place) (t u : Shape) → HasValue scope a (PointerTo t) → HasValue scope b u → is_integer u ≡ true → HasType scope (Infix binary.Minus a b at) (PointerTo t)
-    OfDistance : (scope : Scope) (a b : Expression) (at : Place) (t : Shape) → HasValue scope a (PointerTo t) → HasValue scope b (PointerTo t) → HasType scope (Infix binary.Minus a b at) IntShape
-    OfOrder : (scope : Scope) (op : Binary) (a b : Expression) (at : Place) (t u : Shape) → IsOrder op → HasValue scope a t → HasValue scope b u → is_integer t ≡ true → is_integer u ≡ true → HasType scope (Infix op a b at) IntShape
-    OfPointerOrder : (scope : Scope) (op : Binary) (a b : Expression) (at : Place) (t : Shape) → IsOrder op → HasValue scope a (PointerTo t) → HasValue scope b (PointerTo t) → HasType scope (Infix op a b at) IntShape
-    OfEquality : (scope : Scope) (op : Binary) (a b : Expression) (at : Place) (t u : Shape) → IsEquality op → HasValue scope a t → HasValue scope b u → is_integer t ≡ true → is_integer u ≡ true → HasType scope (Infix op a b at) IntShape
-    OfPointerEquality : (scope : Scope) (op : Binary) (a b : Expression) (at : Place) (t : Shape) → IsEquality op → HasValue scope a (PointerTo t) → HasValue scope b (PointerTo t) → HasType scope (Infix op a b at) IntShape
-    OfEqualityNought : (scope : Scope) (op : Binary) (a b : Expression) (at : Place) (t : Shape) → IsEquality op → HasValue scope a (PointerTo t) → is_nought b ≡ true → HasType scope (Infix op a b at) IntShape
-    OfNoughtEquality : (scope : Scope) (op : Binary) (a b : Expression) (at : Place) (u : Shape) → IsEquality op → is_nought a ≡ true → HasValue scope b (PointerTo u) → HasType scope (Infix op a b at) IntShape
-    OfLogic : (scope : Scope) (op : Binary) (a b : Expression) (at : Place) (t u : Shape) → IsLogic op → HasValue scope a t → HasValue scope b u → is_scalar t ≡ true → is_scalar u ≡ true → HasType scope (Infix op a b at) IntShape
-    OfChoice : (scope : Scope) (c a b : Expression) (at : Place) (v t u : Shape) → HasValue scope c v → is_scalar v ≡ true → HasValue scope a t → HasValue scope b u → is_integer t ≡ true → is_integer u ≡ true → HasType scope (Choice c a b at) (common t u)
-    OfPointerChoice : (scope : Scope) (c a b : Expression) (at : Place) (v t : Shape) → HasValue scope c v → is_scalar v ≡ true → HasValue scope a (PointerTo t) → HasValue scope b (PointerTo t) → HasType scope (Choice c a b at) (PointerTo t)
-    OfChoiceNought : (scope : Scope) (c a b : Expression) (at : Place) (v t : Shape) → HasValue scope c v → is_scalar v ≡ true → HasValue scope a (PointerTo t) → is_nought b ≡ true → HasType scope (Choice c a b at) (PointerTo t)
-    OfNoughtChoice : (scope : Scope) (c a b : Expression) (at : Place) (v u : Shape) → HasValue scope c v → is_scalar v ≡ true → is_nought a ≡ true → HasValue scope b (PointerTo u) → HasType scope (Choice c a b at) (PointerTo u)
-    OfAssignment : (scope : Scope) (a b : Expression) (at : Place) (t u : Shape) → is_place a ≡ true → HasType scope a t → HasValue scope b u → takes t (is_nought b) u ≡ true → HasType scope (Stored None a b at) t
-    OfIntegerUpdate : (scope : Scope) (op : Binary) (a b : Expression) (at : Place) (t u : Shape) → is_place a ≡ true → HasType scope a t → is_integer t ≡ true → HasValue scope b u → is_integer u ≡ true → HasType scope (Stored (Some op) a b at) t
-    OfPointerUpdate : (scope : Scope) (op : Binary) (a b : Expression) (at : Place) (t u : Shape) → is_sum op ≡ true → is_place a ≡ true → HasType scope a (PointerTo t) → HasValue scope b u → is_integer u ≡ true → HasType scope (Stored (Some op) a b at) (PointerTo t)
-    OfElement : (scope : Scope) (a b : Expression) (at : Place) (t u : Shape) → HasValue scope a (PointerTo t) → HasValue scope b u → is_integer u ≡ true → HasType scope (Element a b at) t
-    OfElementTurned : (scope : Scope) (a b : Expression) (at : Place) (t u : Shape) → HasValue scope a t → is_integer t ≡ true → HasValue scope b (PointerTo u) → HasType scope (Element a b at) u
-    OfCall : (scope : Scope) (name : Callee) (all : Expressions) (at : Place) (t : Shape) (ps : List Shape) (defined : Bool) → called scope name ≡ Some (FunctionOf t ps defined) → is_void t ≡ false → AreTaken scope ps all → HasType scope (Called name all at) t
+  pub data HasType : Scope → Expr → Ty → Type 0 where
+    OfName : (scope : Scope) (name : List ℕ) (at : Place) (t : Ty)
+        → look scope name ≡ Some (ObjectOf t) → HasType scope (expr.Name name at) t
+    OfNumber : (scope : Scope) (t : Ty) (n : ℕ) (at : Place) → HasType scope (expr.Number t n at) t
+    OfCharacter : (scope : Scope) (code : ℕ) (at : Place)
+        → HasType scope (expr.Character code at) ty.Int
+    OfEof : (scope : Scope) (at : Place) → HasType scope (expr.Eof at) ty.Int
+    OfSign : (scope : Scope) (op : Unary) (a : Expr) (at : Place) (t : Ty) → IsSign op
+        → HasValue scope a t → is_integer t ≡ true → HasType scope (expr.Unary op a at) (promoted t)
+    OfNot : (scope : Scope) (a : Expr) (at : Place) (t : Ty) → HasValue scope a t
+        → is_scalar t ≡ true → HasType scope (expr.Unary unary.Not a at) ty.Int
+    OfContents : (scope : Scope) (a : Expr) (at : Place) (t : Ty) → HasValue scope a (ty.Pointer t)
+        → HasType scope (expr.Unary unary.At a at) t
+    OfAddress : (scope : Scope) (a : Expr) (at : Place) (t : Ty) → is_place a ≡ true
+        → HasType scope a t → HasType scope (expr.Unary unary.Address a at) (ty.Pointer t)
+    OfStep : (scope : Scope) (how : Step) (a : Expr) (at : Place) (t : Ty) → is_place a ≡ true
+        → HasType scope a t → is_scalar t ≡ true → HasType scope (expr.Step how a at) t
+    OfCast : (scope : Scope) (to : Ty) (a : Expr) (at : Place) (t : Ty) → is_integer to ≡ true
+        → HasValue scope a t → is_integer t ≡ true → HasType scope (expr.Cast to a at) to
+    OfArithmetic : (scope : Scope) (op : Binary) (a b : Expr) (at : Place) (t u : Ty)
+        → IsArithmetic op → HasValue scope a t → HasValue scope b u → is_integer t ≡ true
+        → is_integer u ≡ true → HasType scope (expr.Binary op a b at) (common t u)
+    OfShift : (scope : Scope) (op : Binary) (a b : Expr) (at : Place) (t u : Ty) → IsShift op
+        → HasValue scope a t → HasValue scope b u → is_integer t ≡ true → is_integer u ≡ true
+        → HasType scope (expr.Binary op a b at) (promoted t)
+    OfPointerPlus : (scope : Scope) (a b : Expr) (at : Place) (t u : Ty)
+        → HasValue scope a (ty.Pointer t) → HasValue scope b u → is_integer u ≡ true
+        → HasType scope (expr.Binary binary.Plus a b at) (ty.Pointer t)
+    OfPlusPointer : (scope : Scope) (a b : Expr) (at : Place) (t u : Ty) → HasValue scope a t
+        → HasValue scope b (ty.Pointer u) → is_integer t ≡ true
+        → HasType scope (expr.Binary binary.Plus a b at) (ty.Pointer u)
+    OfPointerMinus : (scope : Scope) (a b : Expr) (at : Place) (t u : Ty)
+        → HasValue scope a (ty.Pointer t) → HasValue scope b u → is_integer u ≡ true
+        → HasType scope (expr.Binary binary.Minus a b at) (ty.Pointer t)
+    OfDistance : (scope : Scope) (a b : Expr) (at : Place) (t : Ty)
+        → HasValue scope a (ty.Pointer t) → HasValue scope b (ty.Pointer t)
+        → HasType scope (expr.Binary binary.Minus a b at) ty.Int
+    OfOrder : (scope : Scope) (op : Binary) (a b : Expr) (at : Place) (t u : Ty) → IsOrder op
+        → HasValue scope a t → HasValue scope b u → is_integer t ≡ true → is_integer u ≡ true
+        → HasType scope (expr.Binary op a b at) ty.Int
+    OfPointerOrder : (scope : Scope) (op : Binary) (a b : Expr) (at : Place) (t : Ty) → IsOrder op
+        → HasValue scope a (ty.Pointer t) → HasValue scope b (ty.Pointer t)
+        → HasType scope (expr.Binary op a b at) ty.Int
+    OfEquality : (scope : Scope) (op : Binary) (a b : Expr) (at : Place) (t u : Ty) → IsEquality op
+        → HasValue scope a t → HasValue scope b u → is_integer t ≡ true → is_integer u ≡ true
+        → HasType scope (expr.Binary op a b at) ty.Int
+    OfPointerEquality : (scope : Scope) (op : Binary) (a b : Expr) (at : Place) (t : Ty)
+        → IsEquality op → HasValue scope a (ty.Pointer t) → HasValue scope b (ty.Pointer t)
+        → HasType scope (expr.Binary op a b at) ty.Int
+    OfEqualityNought : (scope : Scope) (op : Binary) (a b : Expr) (at : Place) (t : Ty)
+        → IsEquality op → HasValue scope a (ty.Pointer t) → is_nought b ≡ true
+        → HasType scope (expr.Binary op a b at) ty.Int
+    OfNoughtEquality : (scope : Scope) (op : Binary) (a b : Expr) (at : Place) (u : Ty)
+        → IsEquality op → is_nought a ≡ true → HasValue scope b (ty.Pointer u)
+        → HasType scope (expr.Binary op a b at) ty.Int
+    OfLogic : (scope : Scope) (op : Binary) (a b : Expr) (at : Place) (t u : Ty) → IsLogic op
+        → HasValue scope a t → HasValue scope b u → is_scalar t ≡ true → is_scalar u ≡ true
+        → HasType scope (expr.Binary op a b at) ty.Int
+    OfConditional : (scope : Scope) (c a b : Expr) (at : Place) (v t u : Ty) → HasValue scope c v
+        → is_scalar v ≡ true → HasValue scope a t → HasValue scope b u → is_integer t ≡ true
+        → is_integer u ≡ true → HasType scope (expr.Conditional c a b at) (common t u)
+    OfPointerConditional : (scope : Scope) (c a b : Expr) (at : Place) (v t : Ty)
+        → HasValue scope c v → is_scalar v ≡ true → HasValue scope a (ty.Pointer t)
+        → HasValue scope b (ty.Pointer t) → HasType scope (expr.Conditional c a b at) (ty.Pointer t)
+    OfConditionalNought : (scope : Scope) (c a b : Expr) (at : Place) (v t : Ty)
+        → HasValue scope c v → is_scalar v ≡ true → HasValue scope a (ty.Pointer t)
+        → is_nought b ≡ true → HasType scope (expr.Conditional c a b at) (ty.Pointer t)
+    OfNoughtConditional : (scope : Scope) (c a b : Expr) (at : Place) (v u : Ty)
+        → HasValue scope c v → is_scalar v ≡ true → is_nought a ≡ true
+        → HasValue scope b (ty.Pointer u) → HasType scope (expr.Conditional c a b at) (ty.Pointer u)
+    OfAssign : (scope : Scope) (a b : Expr) (at : Place) (t u : Ty) → is_place a ≡ true
+        → HasType scope a t → HasValue scope b u → takes t (is_nought b) u ≡ true
+        → HasType scope (expr.Assign None a b at) t
+    OfIntegerUpdate : (scope : Scope) (op : Binary) (a b : Expr) (at : Place) (t u : Ty)
+        → is_place a ≡ true → HasType scope a t → is_integer t ≡ true → HasValue scope b u
+        → is_integer u ≡ true → HasType scope (expr.Assign (Some op) a b at) t
+    OfPointerUpdate : (scope : Scope) (op : Binary) (a b : Expr) (at : Place) (t u : Ty)
+        → is_sum op ≡ true → is_place a ≡ true → HasType scope a (ty.Pointer t)
+        → HasValue scope b u → is_integer u ≡ true
+        → HasType scope (expr.Assign (Some op) a b at) (ty.Pointer t)
+    OfIndex : (scope : Scope) (a b : Expr) (at : Place) (t u : Ty)
+        → HasValue scope a (ty.Pointer t) → HasValue scope b u → is_integer u ≡ true
+        → HasType scope (expr.Index a b at) t
+    OfIndexTurned : (scope : Scope) (a b : Expr) (at : Place) (t u : Ty) → HasValue scope a t
+        → is_integer t ≡ true → HasValue scope b (ty.Pointer u)
+        → HasType scope (expr.Index a b at) u
+    OfCall : (scope : Scope) (name : Callee) (all : Exprs) (at : Place) (t : Ty) (ps : List Ty)
+        (defined : Bool) → called scope name ≡ Some (FunctionOf t ps defined) → is_void t ≡ false
+        → AreTaken scope ps all → HasType scope (expr.Call name all at) t
 
   -- the type of its value, where an array is a pointer to its first element
-  pub data HasValue : Scope → Expression → Shape → Type 0 where
-    ValueOf : (scope : Scope) (a : Expression) (t : Shape) → HasType scope a t → HasValue scope a (decayed t)
+  pub data HasValue : Scope → Expr → Ty → Type 0 where
+    ValueOf : (scope : Scope) (a : Expr) (t : Ty) → HasType scope a t → HasValue scope a (decayed t)
 
   -- arguments that the parameters take, one each
-  pub data AreTaken : Scope → List Shape → Expressions → Type 0 where
-    NoneTaken : (scope : Scope) → AreTaken scope [] NoMore
-    OneTaken : (scope : Scope) (to : Shape) (ps : List Shape) (a : Expression) (rest : Expressions) (u : Shape) → HasValue scope a u → takes to (is_nought a) u ≡ true → AreTaken scope ps rest → AreTaken scope (to ∷ ps) (Next a rest)
+  pub data AreTaken : Scope → List Ty → Exprs → Type 0 where
+    NoneTaken : (scope : Scope) → AreTaken scope [] expr.NoMore
+    OneTaken : (scope : Scope) (to : Ty) (ps : List Ty) (a : Expr) (rest : Exprs) (u : Ty)
+        → HasValue scope a u → takes to (is_nought a) u ≡ true → AreTaken scope ps rest
+        → AreTaken scope (to ∷ ps) (expr.More a rest)

@@ -1,33 +1,36 @@
 -- The markers of a text, in its order.
 use Rattle.std.specs.Prelude.{List, [], ◌∷◌, ◌++◌, Option, Some, None}
 use Rattle.c_tree.specs.declared.tree.Marker.{Marker}
-use Rattle.c_tree.specs.Syntax.{Statement, Nothing, Evaluated, Declared, Compound, Marked, Branch, Fork, Loop, LoopOnce, LoopFrom, Returned, BreakOut, GoOn, Statements, NoStatement, Then, Part, Globals, Routine}
+use Rattle.c_tree.specs.Stmt.{Stmt, Stmts}
+use Rattle.c_tree.specs.Stmt as stmt
+use Rattle.c_tree.specs.Item.{Item}
+use Rattle.c_tree.specs.Item as item
 
 abbrev mutual
-  pub markers : Statement → List Marker
-  markers (Nothing at) = []
-  markers (Evaluated e at) = []
-  markers (Declared ds at) = []
-  markers (Compound body at) = all_markers body
-  markers (Marked m at) = m ∷ []
-  markers (Branch c s at) = markers s
-  markers (Fork c s other at) = markers s ++ markers other
-  markers (Loop c s at) = markers s
-  markers (LoopOnce s c at) = markers s
-  markers (LoopFrom f c d s at) = markers s
-  markers (Returned value at) = []
-  markers (BreakOut at) = []
-  markers (GoOn at) = []
+  pub markers : Stmt → List Marker
+  markers (stmt.Empty at) = []
+  markers (stmt.Expr e at) = []
+  markers (stmt.Vars ds at) = []
+  markers (stmt.Block body at) = all_markers body
+  markers (stmt.Marker m at) = m ∷ []
+  markers (stmt.If c s at) = markers s
+  markers (stmt.IfElse c s other at) = markers s ++ markers other
+  markers (stmt.While c s at) = markers s
+  markers (stmt.Do s c at) = markers s
+  markers (stmt.For f c d s at) = markers s
+  markers (stmt.Return value at) = []
+  markers (stmt.Break at) = []
+  markers (stmt.Continue at) = []
 
-  pub all_markers : Statements → List Marker
-  all_markers NoStatement = []
-  all_markers (Then s rest) = markers s ++ all_markers rest
+  pub all_markers : Stmts → List Marker
+  all_markers stmt.NoMore = []
+  all_markers (stmt.More s rest) = markers s ++ all_markers rest
 
-abbrev pub body_markers : Option Statements → List Marker
+abbrev pub body_markers : Option Stmts → List Marker
 body_markers None = []
 body_markers (Some body) = all_markers body
 
-abbrev pub text_markers : List Part → List Marker
+abbrev pub text_markers : List Item → List Marker
 text_markers [] = []
-text_markers (Globals keep ds ∷ rest) = text_markers rest
-text_markers (Routine f ∷ rest) = body_markers f.body ++ text_markers rest
+text_markers (item.Vars keep ds ∷ rest) = text_markers rest
+text_markers (item.Fun f ∷ rest) = body_markers f.body ++ text_markers rest

@@ -6,45 +6,49 @@ use Rattle.c_tree.specs.declared.edge.Edge.{Edge}
 use Rattle.c_tree.specs.declared.place.Place.{Place}
 use Rattle.c_tree.specs.declared.tree.Marker.{Marker}
 use Rattle.c_tree.specs.declared.tree.Marker.TheVariants as marker
-use Rattle.c_tree.specs.Syntax.{Statement, Nothing, Evaluated, Declared, Compound, Marked, Branch, Fork, Loop, LoopOnce, LoopFrom, Returned, BreakOut, GoOn, Statements, NoStatement, Then, Part, Globals, Routine}
+use Rattle.c_tree.specs.Stmt.{Stmt, Stmts}
+use Rattle.c_tree.specs.Stmt as stmt
+use Rattle.c_tree.specs.Item.{Item}
+use Rattle.c_tree.specs.Item as item
 use Rattle.c_tree.specs.Breach.{unless}
 
 -- the edge of a region that a marker is, with the place of the block whose own statement it is
 abbrev pub edge : Option Place → Marker → Place → List Edge
-edge block (marker.Begin k) at = record { begins = true; number = k; place = at; block = block } ∷ []
+edge block (marker.Begin k) at =
+    record { begins = true; number = k; place = at; block = block } ∷ []
 edge block (marker.End k) at = record { begins = false; number = k; place = at; block = block } ∷ []
 edge block (marker.Wait channel) at = []
 edge block (marker.Post channel name name_at n) at = []
 
 -- the edges in the order of the text
 abbrev mutual
-  pub edges : Option Place → Statement → List Edge
-  edges block (Nothing at) = []
-  edges block (Evaluated e at) = []
-  edges block (Declared ds at) = []
-  edges block (Compound body at) = body_edges (Some at) body
-  edges block (Marked m at) = edge block m at
-  edges block (Branch c s at) = edges None s
-  edges block (Fork c s other at) = edges None s ++ edges None other
-  edges block (Loop c s at) = edges None s
-  edges block (LoopOnce s c at) = edges None s
-  edges block (LoopFrom f c d s at) = edges None s
-  edges block (Returned value at) = []
-  edges block (BreakOut at) = []
-  edges block (GoOn at) = []
+  pub edges : Option Place → Stmt → List Edge
+  edges block (stmt.Empty at) = []
+  edges block (stmt.Expr e at) = []
+  edges block (stmt.Vars ds at) = []
+  edges block (stmt.Block body at) = body_edges (Some at) body
+  edges block (stmt.Marker m at) = edge block m at
+  edges block (stmt.If c s at) = edges None s
+  edges block (stmt.IfElse c s other at) = edges None s ++ edges None other
+  edges block (stmt.While c s at) = edges None s
+  edges block (stmt.Do s c at) = edges None s
+  edges block (stmt.For f c d s at) = edges None s
+  edges block (stmt.Return value at) = []
+  edges block (stmt.Break at) = []
+  edges block (stmt.Continue at) = []
 
-  pub body_edges : Option Place → Statements → List Edge
-  body_edges block NoStatement = []
-  body_edges block (Then s rest) = edges block s ++ body_edges block rest
+  pub body_edges : Option Place → Stmts → List Edge
+  body_edges block stmt.NoMore = []
+  body_edges block (stmt.More s rest) = edges block s ++ body_edges block rest
 
-abbrev pub function_edges : Place → Option Statements → List Edge
+abbrev pub function_edges : Place → Option Stmts → List Edge
 function_edges at None = []
 function_edges at (Some body) = body_edges (Some at) body
 
-abbrev pub text_edges : List Part → List Edge
+abbrev pub text_edges : List Item → List Edge
 text_edges [] = []
-text_edges (Globals keep ds ∷ rest) = text_edges rest
-text_edges (Routine f ∷ rest) = function_edges f.place f.body ++ text_edges rest
+text_edges (item.Vars keep ds ∷ rest) = text_edges rest
+text_edges (item.Fun f ∷ rest) = function_edges f.place f.body ++ text_edges rest
 
 abbrev pub alike : Bool → Bool → Bool
 alike a b = if a then b else not b
@@ -74,8 +78,10 @@ is_right_before e (Some partner) = e.begins && is_same_block e.block partner.blo
 abbrev pub is_right : List Edge → Edge → List Edge → Bool
 is_right before e behind =
     not (is_some (first_edge e.begins e.number before))
-    && (is_some (first_edge (not e.begins) e.number before) || is_right_before e (first_edge (not e.begins) e.number behind))
+    && (is_some (first_edge (not e.begins) e.number before)
+    || is_right_before e (first_edge (not e.begins) e.number behind))
 
 abbrev pub edge_breaches : List Edge → List Edge → List Breach
 edge_breaches before [] = []
-edge_breaches before (e ∷ es) = unless (is_right before e es) BadMarker e.place ++ edge_breaches (before ++ e ∷ []) es
+edge_breaches before (e ∷ es) =
+    unless (is_right before e es) BadMarker e.place ++ edge_breaches (before ++ e ∷ []) es

@@ -1,11 +1,11 @@
 -- The names in scope (C11 6.2.1).
 use Rattle.std.specs.Prelude.{ℕ, Bool, List, [], ◌∷◌, ◌++◌, Option, Some, None, if◌then◌else◌, bytes_eq}
-use Rattle.c_tree.specs.Syntax.{Shape}
+use Rattle.c_tree.specs.Ty.{Ty}
 
 -- what a name stands for; of a function, whether the text defines it
 pub data Known : Type 0 where
-  ObjectOf : (shape : Shape) → Known
-  FunctionOf : (result : Shape) (parameters : List Shape) (defined : Bool) → Known
+  ObjectOf : (shape : Ty) → Known
+  FunctionOf : (result : Ty) (parameters : List Ty) (defined : Bool) → Known
 
 -- a block's names with what they stand for
 abbrev pub Frame : Type 0

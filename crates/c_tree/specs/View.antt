@@ -4,140 +4,160 @@ use Rattle.std.proofs.Common.{Global}
 use Rattle.c_tree.specs.declared.ctype.CType.{CType}
 use Rattle.c_tree.specs.declared.ctype.CType.TheVariants.{Int, Unsigned, Char, Void, Pointer', Array'}
 use Rattle.c_tree.specs.declared.place.Place.{Place}
-use Rattle.c_tree.specs.declared.tree.Expr.{Expr}
+use Rattle.c_tree.specs.declared.tree.Expr.{Expr as ExprTree}
 use Rattle.c_tree.specs.declared.tree.ExprKind.{ExprKind}
 use Rattle.c_tree.specs.declared.tree.ExprKind.TheOpen.{ExprKind-F}
 use Rattle.c_tree.specs.declared.tree.ExprKind.TheOpen as one
 use Rattle.c_tree.specs.declared.tree.ExprKind.TheFolds.{fold-Expr, fold-ExprKind}
-use Rattle.c_tree.specs.declared.tree.First.{First}
-use Rattle.c_tree.specs.declared.tree.First.TheVariants as first
-use Rattle.c_tree.specs.declared.tree.Fun.{Fun}
-use Rattle.c_tree.specs.declared.tree.Init.{Init}
+use Rattle.c_tree.specs.declared.tree.First.{First as FirstTree}
+use Rattle.c_tree.specs.declared.tree.First.TheVariants as code_first
+use Rattle.c_tree.specs.declared.tree.Fun.{Fun as FunTree}
+use Rattle.c_tree.specs.declared.tree.Init.{Init as InitTree}
 use Rattle.c_tree.specs.declared.tree.Init.TheVariants.{One, Many}
-use Rattle.c_tree.specs.declared.tree.Item.{Item}
-use Rattle.c_tree.specs.declared.tree.Item.TheVariants as item
-use Rattle.c_tree.specs.declared.tree.Param.{Param}
-use Rattle.c_tree.specs.declared.tree.Stmt.{Stmt}
+use Rattle.c_tree.specs.declared.tree.Item.{Item as ItemTree}
+use Rattle.c_tree.specs.declared.tree.Item.TheVariants as code_item
+use Rattle.c_tree.specs.declared.tree.Param.{Param as ParamTree}
+use Rattle.c_tree.specs.declared.tree.Stmt.{Stmt as StmtTree}
 use Rattle.c_tree.specs.declared.tree.StmtKind.{StmtKind}
 use Rattle.c_tree.specs.declared.tree.StmtKind.TheOpen.{StmtKind-F}
 use Rattle.c_tree.specs.declared.tree.StmtKind.TheOpen as kind
 use Rattle.c_tree.specs.declared.tree.StmtKind.TheFolds.{fold-Stmt, fold-StmtKind}
 use Rattle.c_tree.specs.declared.tree.Tree.{Tree}
-use Rattle.c_tree.specs.declared.tree.Var.{Var}
-use Rattle.c_tree.specs.Syntax.{Shape, IntShape, UnsignedShape, CharShape, VoidShape, PointerTo, ArrayOf, Expression, Variable, Numeral, Letter, EndOfFile, Prefix, Stepped, Converted, Infix, Choice, Stored, Element, Called, Expressions, NoMore, Next, Initialiser, OneValue, ManyValues, Declarator, Beginning, NoBeginning, DeclaredFirst, EvaluatedFirst, Statement, Nothing, Evaluated, Declared, Compound, Marked, Branch, Fork, Loop, LoopOnce, LoopFrom, Returned, BreakOut, GoOn, Statements, NoStatement, Then, Parameter, Function, Part, Globals, Routine}
+use Rattle.c_tree.specs.declared.tree.Var.{Var as VarTree}
+use Rattle.c_tree.specs.Ty.{Ty}
+use Rattle.c_tree.specs.Ty as ty
+use Rattle.c_tree.specs.Expr.{Expr, Exprs}
+use Rattle.c_tree.specs.Expr as expr
+use Rattle.c_tree.specs.Init.{Init}
+use Rattle.c_tree.specs.Init as initial
+use Rattle.c_tree.specs.Var.{Var}
+use Rattle.c_tree.specs.First.{First}
+use Rattle.c_tree.specs.First as for_first
+use Rattle.c_tree.specs.Stmt.{Stmt, Stmts}
+use Rattle.c_tree.specs.Stmt as stmt
+use Rattle.c_tree.specs.Fun.{Param, Fun}
+use Rattle.c_tree.specs.Item.{Item}
+use Rattle.c_tree.specs.Item as item
 
-abbrev pub shape : CType → Shape
-shape Int = IntShape
-shape Unsigned = UnsignedShape
-shape Char = CharShape
-shape Void = VoidShape
-shape (Pointer' p to) = PointerTo (shape to)
-shape (Array' p of count) = ArrayOf (shape of) count
+abbrev pub ty_of : CType → Ty
+ty_of Int = ty.Int
+ty_of Unsigned = ty.Unsigned
+ty_of Char = ty.Char
+ty_of Void = ty.Void
+ty_of (Pointer' p to) = ty.Pointer (ty_of to)
+ty_of (Array' p of count) = ty.Array (ty_of of) count
 
 -- expressions as the list that a pure tree holds
-abbrev pub row : List Expression → Expressions
-row [] = NoMore
-row (e ∷ es) = Next e (row es)
+abbrev pub exprs_list : List Expr → Exprs
+exprs_list [] = expr.NoMore
+exprs_list (e ∷ es) = expr.More e (exprs_list es)
 
 -- one level of an expression, with the pure tree of each operand in its place
-abbrev pub expression_step : ExprKind-F (Place → Expression) Expression → Place → Expression
-expression_step (one.Name name) at = Variable name at
-expression_step (one.Number ty value) at = Numeral (shape ty) value at
-expression_step (one.Character code) at = Letter code at
-expression_step one.Eof at = EndOfFile at
-expression_step (one.Unary op a) at = Prefix op a.value at
-expression_step (one.Step how a) at = Stepped how a.value at
-expression_step (one.Cast ty a) at = Converted (shape ty) a.value at
-expression_step (one.Binary op a b) at = Infix op a.value b.value at
-expression_step (one.Conditional c a b) at = Choice c.value a.value b.value at
-expression_step (one.Assign how a b) at = Stored how a.value b.value at
-expression_step (one.Index a b) at = Element a.value b.value at
-expression_step (one.Call callee all) at = Called callee (row all.items) at
+abbrev pub expr_step : ExprKind-F (Place → Expr) Expr → Place → Expr
+expr_step (one.Name name) at = expr.Name name at
+expr_step (one.Number t value) at = expr.Number (ty_of t) value at
+expr_step (one.Character code) at = expr.Character code at
+expr_step one.Eof at = expr.Eof at
+expr_step (one.Unary op a) at = expr.Unary op a.value at
+expr_step (one.Step how a) at = expr.Step how a.value at
+expr_step (one.Cast t a) at = expr.Cast (ty_of t) a.value at
+expr_step (one.Binary op a b) at = expr.Binary op a.value b.value at
+expr_step (one.Conditional c a b) at = expr.Conditional c.value a.value b.value at
+expr_step (one.Assign how a b) at = expr.Assign how a.value b.value at
+expr_step (one.Index a b) at = expr.Index a.value b.value at
+expr_step (one.Call callee all) at = expr.Call callee (exprs_list all.items) at
 
-abbrev pub expression : Expr → Expression
-expression = fold-Expr (Place → Expression) Expression expression_step (λ e. e.kind e.place)
+abbrev pub expr_of : ExprTree → Expr
+expr_of = fold-Expr (Place → Expr) Expr expr_step (λ e. e.kind e.place)
 
 -- what a kind is at each place
-abbrev pub of_kind : ExprKind → Place → Expression
-of_kind = fold-ExprKind (Place → Expression) Expression expression_step (λ e. e.kind e.place)
+abbrev pub expr_kind_of : ExprKind → Place → Expr
+expr_kind_of = fold-ExprKind (Place → Expr) Expr expr_step (λ e. e.kind e.place)
 
-abbrev pub expressions : List Expr → Expressions
-expressions es = row (map expression es)
+abbrev pub exprs_of : List ExprTree → Exprs
+exprs_of es = exprs_list (map expr_of es)
 
-abbrev pub initialiser : Init → Initialiser
-initialiser (One e) = OneValue (expression e)
-initialiser (Many es) = ManyValues (expressions es.items)
+abbrev pub init_of : InitTree → Init
+init_of (One e) = initial.One (expr_of e)
+init_of (Many es) = initial.Many (exprs_of es.items)
 
-abbrev pub declarator : Var → Declarator
-declarator v = record {
-  base = shape v.base;
+abbrev pub var_of : VarTree → Var
+var_of v = record {
+  base = ty_of v.base;
   stars = v.stars;
   name = v.name;
   place = v.place;
-  sizes = expressions v.sizes.items;
-  init = option_map initialiser v.init;
+  sizes = exprs_of v.sizes.items;
+  init = option_map init_of v.init;
 }
 
-abbrev pub beginning : First → Beginning
-beginning first.Nothing = NoBeginning
-beginning (first.Vars vs) = DeclaredFirst (map declarator vs.items)
-beginning (first.Expr e) = EvaluatedFirst (expression e)
+abbrev pub first_of : FirstTree → First
+first_of code_first.Nothing = for_first.Nothing
+first_of (code_first.Vars vs) = for_first.Vars (map var_of vs.items)
+first_of (code_first.Expr e) = for_first.Expr (expr_of e)
 
 -- statements as the list that a pure tree holds
-abbrev pub statement_row : List Statement → Statements
-statement_row [] = NoStatement
-statement_row (s ∷ ss) = Then s (statement_row ss)
+abbrev pub stmts_list : List Stmt → Stmts
+stmts_list [] = stmt.NoMore
+stmts_list (s ∷ ss) = stmt.More s (stmts_list ss)
 
 -- an `if`, with an `else` where there is one
-abbrev pub forked : Expression → Statement → Option Statement → Place → Statement
-forked c s None at = Branch c s at
-forked c s (Some other) at = Fork c s other at
+abbrev pub if_of : Expr → Stmt → Option Stmt → Place → Stmt
+if_of c s None at = stmt.If c s at
+if_of c s (Some other) at = stmt.IfElse c s other at
 
 -- one level of a statement, with the pure tree of each part in its place
-abbrev pub statement_step : StmtKind-F (Place → Statement) Statement → Place → Statement
-statement_step kind.Empty at = Nothing at
-statement_step (kind.Expr e) at = Evaluated (expression e) at
-statement_step (kind.Vars vs) at = Declared (map declarator vs.items) at
-statement_step (kind.Block body) at = Compound (statement_row body.items) at
-statement_step (kind.Marker m) at = Marked m at
-statement_step (kind.If c s other) at = forked (expression c) s.value (option_map (λ o. o.value) other) at
-statement_step (kind.While c s) at = Loop (expression c) s.value at
-statement_step (kind.Do s c) at = LoopOnce s.value (expression c) at
-statement_step (kind.For f c d s) at = LoopFrom (beginning f) (option_map expression c) (option_map expression d) s.value at
-statement_step (kind.Return value) at = Returned (option_map expression value) at
-statement_step kind.Break at = BreakOut at
-statement_step kind.Continue at = GoOn at
+abbrev pub stmt_step : StmtKind-F (Place → Stmt) Stmt → Place → Stmt
+stmt_step kind.Empty at = stmt.Empty at
+stmt_step (kind.Expr e) at = stmt.Expr (expr_of e) at
+stmt_step (kind.Vars vs) at = stmt.Vars (map var_of vs.items) at
+stmt_step (kind.Block body) at = stmt.Block (stmts_list body.items) at
+stmt_step (kind.Marker m) at = stmt.Marker m at
+stmt_step (kind.If c s other) at = if_of (expr_of c) s.value (option_map (λ o. o.value) other) at
+stmt_step (kind.While c s) at = stmt.While (expr_of c) s.value at
+stmt_step (kind.Do s c) at = stmt.Do s.value (expr_of c) at
+stmt_step (kind.For f c d s) at =
+    stmt.For (first_of f) (option_map expr_of c) (option_map expr_of d) s.value at
+stmt_step (kind.Return value) at = stmt.Return (option_map expr_of value) at
+stmt_step kind.Break at = stmt.Break at
+stmt_step kind.Continue at = stmt.Continue at
 
-abbrev pub statement : Stmt → Statement
-statement = fold-Stmt (Place → Statement) Statement statement_step (λ s. s.kind s.place)
+abbrev pub stmt_of : StmtTree → Stmt
+stmt_of = fold-Stmt (Place → Stmt) Stmt stmt_step (λ s. s.kind s.place)
 
 -- what a kind is at each place
-abbrev pub of_statement : StmtKind → Place → Statement
-of_statement = fold-StmtKind (Place → Statement) Statement statement_step (λ s. s.kind s.place)
+abbrev pub stmt_kind_of : StmtKind → Place → Stmt
+stmt_kind_of = fold-StmtKind (Place → Stmt) Stmt stmt_step (λ s. s.kind s.place)
 
-abbrev pub held : Box Stmt Global → Statement
-held s = statement s.value
+abbrev pub boxed_stmt_of : Box StmtTree Global → Stmt
+boxed_stmt_of s = stmt_of s.value
 
-abbrev pub statements : List Stmt → Statements
-statements ss = statement_row (map statement ss)
+abbrev pub stmts_of : List StmtTree → Stmts
+stmts_of ss = stmts_list (map stmt_of ss)
 
-abbrev pub parameter : Param → Parameter
-parameter p = record { base = shape p.base; stars = p.stars; name = p.name; place = p.place; array = p.array }
+abbrev pub param_of : ParamTree → Param
+param_of p = record {
+  base = ty_of p.base;
+  stars = p.stars;
+  name = p.name;
+  place = p.place;
+  array = p.array;
+}
 
-abbrev pub function : Fun → Function
-function f = record {
-  base = shape f.base;
+abbrev pub fun_of : FunTree → Fun
+fun_of f = record {
+  base = ty_of f.base;
   stars = f.stars;
   name = f.name;
   place = f.place;
-  parameters = map parameter f.params.items;
-  body = option_map (λ body. statements body.items) f.body;
+  parameters = map param_of f.params.items;
+  body = option_map (λ body. stmts_of body.items) f.body;
 }
 
-abbrev pub part : Item → Part
-part (item.Vars keep vs) = Globals keep (map declarator vs.items)
-part (item.Fun f) = Routine (function f)
+abbrev pub item_of : ItemTree → Item
+item_of (code_item.Vars keep vs) = item.Vars keep (map var_of vs.items)
+item_of (code_item.Fun f) = item.Fun (fun_of f)
 
 -- a whole text
-abbrev pub parts : Tree → List Part
-parts tree = map part tree.items.items
+abbrev pub items_of : Tree → List Item
+items_of tree = map item_of tree.items.items

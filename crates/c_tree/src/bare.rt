@@ -1,8 +1,8 @@
 //! Trees without their markers.
 
 ghost use Rattle.std.specs.Prelude.{◌≡◌, map, option_map, IfOk};
-ghost use Rattle.c_tree.specs.Syntax.{LoopFrom};
-ghost use Rattle.c_tree.specs.View.{expression, beginning, held, statement, statements, part, parts};
+ghost use Rattle.c_tree.specs.Stmt as the_stmt;
+ghost use Rattle.c_tree.specs.View.{expr_of, first_of, boxed_stmt_of, stmt_of, stmts_of, item_of, items_of};
 ghost use Rattle.c_tree.specs.Erase.{erased, erased_all, erased_part, erased_text};
 
 use crate::OutOfMemory;
@@ -13,14 +13,15 @@ use std::alloc::Global;
 
 #[cycle(stmt)]
 fn boxed(alloc: Global, s: &Stmt) -> Result<Box<Stmt>, OutOfMemory>
-    ensures { IfOk result (λ bare. held bare ≡ erased (statement s.now)) }
+    ensures { IfOk result (λ bare. boxed_stmt_of bare ≡ erased (stmt_of s.now)) }
 {
     Ok(Box::new(alloc, stmt(alloc, s)?)?)
 }
 
 #[cycle(stmt)]
 fn other(alloc: Global, s: &Option<Box<Stmt>>) -> Result<Option<Box<Stmt>>, OutOfMemory>
-    ensures { IfOk result (λ bare. option_map held bare ≡ option_map erased (option_map held s.now)) }
+    ensures { IfOk result (λ bare. option_map boxed_stmt_of bare
+        ≡ option_map erased (option_map boxed_stmt_of s.now)) }
 {
     match s {
         None => Ok(None),
@@ -37,7 +38,9 @@ fn from_first(
     body: &Stmt,
     place: Place,
 ) -> Result<Stmt, OutOfMemory>
-    ensures { IfOk result (λ bare. statement bare ≡ LoopFrom (beginning from.now) (option_map expression test.now) (option_map expression step.now) (erased (statement body.now)) place) }
+    ensures { IfOk result (λ bare. stmt_of bare
+        ≡ the_stmt.For (first_of from.now) (option_map expr_of test.now)
+        (option_map expr_of step.now) (erased (stmt_of body.now)) place) }
 {
     let body = boxed(alloc, body)?;
     let from = first(alloc, from)?;
@@ -47,9 +50,9 @@ fn from_first(
 }
 
 #[cycle(stmt)]
-#[tactic(auto, using(crate::proofs::Erasing::rows, crate::proofs::Views::views))]
+#[tactic(auto, using(crate::proofs::Erasing::rows, crate::proofs::ViewLemmas::views))]
 fn stmt(alloc: Global, s: &Stmt) -> Result<Stmt, OutOfMemory>
-    ensures { IfOk result (λ bare. statement bare ≡ erased (statement s.now)) }
+    ensures { IfOk result (λ bare. stmt_of bare ≡ erased (stmt_of s.now)) }
 {
     let place = s.place;
     match &s.kind {
@@ -107,7 +110,7 @@ fn stmt(alloc: Global, s: &Stmt) -> Result<Stmt, OutOfMemory>
 
 #[cycle(stmt)]
 fn stmts(alloc: Global, list: &[Stmt]) -> Result<Vec<Stmt>, OutOfMemory>
-    ensures { IfOk result (λ bare. map statement bare.items ≡ map erased (map statement list.now)) }
+    ensures { IfOk result (λ bare. map stmt_of bare.items ≡ map erased (map stmt_of list.now)) }
 {
     let mut bare = Vec::new(alloc);
     for s in list {
@@ -118,7 +121,8 @@ fn stmts(alloc: Global, list: &[Stmt]) -> Result<Vec<Stmt>, OutOfMemory>
 
 #[tactic(auto, using(crate::proofs::Erasing::rows))]
 fn optional_body(alloc: Global, from: &Option<Vec<Stmt>>) -> Result<Option<Vec<Stmt>>, OutOfMemory>
-    ensures { IfOk result (λ bare. option_map (λ body. statements body.items) bare ≡ option_map erased_all (option_map (λ body. statements body.items) from.now)) }
+    ensures { IfOk result (λ bare. option_map (λ body. stmts_of body.items) bare
+        ≡ option_map erased_all (option_map (λ body. stmts_of body.items) from.now)) }
 {
     match from {
         None => Ok(None),
@@ -127,7 +131,7 @@ fn optional_body(alloc: Global, from: &Option<Vec<Stmt>>) -> Result<Option<Vec<S
 }
 
 fn item(alloc: Global, from: &Item) -> Result<Item, OutOfMemory>
-    ensures { IfOk result (λ bare. part bare ≡ erased_part (part from.now)) }
+    ensures { IfOk result (λ bare. item_of bare ≡ erased_part (item_of from.now)) }
 {
     match from {
         Item::Vars(keep, list) => Ok(Item::Vars(*keep, vars(alloc, list)?)),
@@ -147,7 +151,7 @@ fn item(alloc: Global, from: &Item) -> Result<Item, OutOfMemory>
 
 /// The tree with each marker replaced by the empty statement at its place.
 pub fn erase(alloc: Global, tree: &Tree) -> Result<Tree, OutOfMemory>
-    ensures { IfOk result (λ bare. parts bare ≡ erased_text (parts tree.now)) }
+    ensures { IfOk result (λ bare. items_of bare ≡ erased_text (items_of tree.now)) }
 {
     let mut items = Vec::new(alloc);
     for i in &tree.items {

@@ -1,8 +1,8 @@
 //! Equal trees in memory of their own.
 
 ghost use Rattle.std.specs.Prelude.{◌≡◌, false, map, option_map, IfOk};
-ghost use Rattle.c_tree.specs.View.{expression, initialiser, declarator, beginning, parameter};
-ghost use Rattle.c_tree.specs.FirstOperand.{has_first, with_first};
+ghost use Rattle.c_tree.specs.View.{expr_of, init_of, var_of, first_of, param_of};
+ghost use Rattle.c_tree.specs.private.FirstOperand.{has_first, with_first};
 
 use crate::OutOfMemory;
 use crate::spine::Spine;
@@ -21,7 +21,7 @@ fn callee(alloc: Global, from: &Callee) -> Result<Callee, OutOfMemory>
 
 #[cycle(expr)]
 fn operand(alloc: Global, e: &Expr) -> Result<Box<Expr>, OutOfMemory>
-    ensures { IfOk result (λ copy. expression copy.value ≡ expression e.now) }
+    ensures { IfOk result (λ copy. expr_of copy.value ≡ expr_of e.now) }
 {
     Ok(Box::new(alloc, expr(alloc, e)?)?)
 }
@@ -29,8 +29,8 @@ fn operand(alloc: Global, e: &Expr) -> Result<Box<Expr>, OutOfMemory>
 /// An expression that has no first operand, again.
 #[cycle(expr)]
 fn end(alloc: Global, e: &Expr) -> Result<Expr, OutOfMemory>
-    requires { has_first (expression e.now) ≡ false }
-    ensures { IfOk result (λ copy. expression copy ≡ expression e.now) }
+    requires { has_first (expr_of e.now) ≡ false }
+    ensures { IfOk result (λ copy. expr_of copy ≡ expr_of e.now) }
 {
     let place = e.place;
     match &e.kind {
@@ -62,7 +62,7 @@ fn end(alloc: Global, e: &Expr) -> Result<Expr, OutOfMemory>
 /// An expression again, with another first operand.
 #[cycle(expr)]
 fn around(alloc: Global, e: &Expr, first: Expr) -> Result<Expr, OutOfMemory>
-    ensures { IfOk result (λ copy. expression copy ≡ with_first (expression e.now) (expression first)) }
+    ensures { IfOk result (λ copy. expr_of copy ≡ with_first (expr_of e.now) (expr_of first)) }
 {
     let place = e.place;
     match &e.kind {
@@ -107,7 +107,7 @@ fn around(alloc: Global, e: &Expr, first: Expr) -> Result<Expr, OutOfMemory>
 /// An equal expression. First operands are copied in a loop, since a text can have some 64,000 of them.
 #[cycle(expr)]
 pub(crate) fn expr(alloc: Global, e: &Expr) -> Result<Expr, OutOfMemory>
-    ensures { IfOk result (λ copy. expression copy ≡ expression e.now) }
+    ensures { IfOk result (λ copy. expr_of copy ≡ expr_of e.now) }
 {
     let spine = Spine::of(alloc, e)?;
     let mut above = spine.above;
@@ -120,7 +120,7 @@ pub(crate) fn expr(alloc: Global, e: &Expr) -> Result<Expr, OutOfMemory>
 
 #[cycle(expr)]
 pub(crate) fn exprs(alloc: Global, list: &[Expr]) -> Result<Vec<Expr>, OutOfMemory>
-    ensures { IfOk result (λ copy. map expression copy.items ≡ map expression list.now) }
+    ensures { IfOk result (λ copy. map expr_of copy.items ≡ map expr_of list.now) }
 {
     let mut copy = Vec::new(alloc);
     for e in list {
@@ -130,7 +130,7 @@ pub(crate) fn exprs(alloc: Global, list: &[Expr]) -> Result<Vec<Expr>, OutOfMemo
 }
 
 fn init(alloc: Global, from: &Init) -> Result<Init, OutOfMemory>
-    ensures { IfOk result (λ copy. initialiser copy ≡ initialiser from.now) }
+    ensures { IfOk result (λ copy. init_of copy ≡ init_of from.now) }
 {
     match from {
         Init::One(e) => Ok(Init::One(expr(alloc, e)?)),
@@ -139,7 +139,7 @@ fn init(alloc: Global, from: &Init) -> Result<Init, OutOfMemory>
 }
 
 fn optional_init(alloc: Global, from: &Option<Init>) -> Result<Option<Init>, OutOfMemory>
-    ensures { IfOk result (λ copy. option_map initialiser copy ≡ option_map initialiser from.now) }
+    ensures { IfOk result (λ copy. option_map init_of copy ≡ option_map init_of from.now) }
 {
     match from {
         None => Ok(None),
@@ -148,7 +148,7 @@ fn optional_init(alloc: Global, from: &Option<Init>) -> Result<Option<Init>, Out
 }
 
 fn var(alloc: Global, from: &Var) -> Result<Var, OutOfMemory>
-    ensures { IfOk result (λ copy. declarator copy ≡ declarator from.now) }
+    ensures { IfOk result (λ copy. var_of copy ≡ var_of from.now) }
 {
     let init = optional_init(alloc, &from.init)?;
     Ok(Var {
@@ -162,7 +162,7 @@ fn var(alloc: Global, from: &Var) -> Result<Var, OutOfMemory>
 }
 
 pub(crate) fn vars(alloc: Global, list: &[Var]) -> Result<Vec<Var>, OutOfMemory>
-    ensures { IfOk result (λ copy. map declarator copy.items ≡ map declarator list.now) }
+    ensures { IfOk result (λ copy. map var_of copy.items ≡ map var_of list.now) }
 {
     let mut copy = Vec::new(alloc);
     for v in list {
@@ -172,7 +172,7 @@ pub(crate) fn vars(alloc: Global, list: &[Var]) -> Result<Vec<Var>, OutOfMemory>
 }
 
 pub(crate) fn optional(alloc: Global, e: &Option<Expr>) -> Result<Option<Expr>, OutOfMemory>
-    ensures { IfOk result (λ copy. option_map expression copy ≡ option_map expression e.now) }
+    ensures { IfOk result (λ copy. option_map expr_of copy ≡ option_map expr_of e.now) }
 {
     match e {
         None => Ok(None),
@@ -181,7 +181,7 @@ pub(crate) fn optional(alloc: Global, e: &Option<Expr>) -> Result<Option<Expr>, 
 }
 
 pub(crate) fn first(alloc: Global, from: &First) -> Result<First, OutOfMemory>
-    ensures { IfOk result (λ copy. beginning copy ≡ beginning from.now) }
+    ensures { IfOk result (λ copy. first_of copy ≡ first_of from.now) }
 {
     match from {
         First::Nothing => Ok(First::Nothing),
@@ -191,7 +191,7 @@ pub(crate) fn first(alloc: Global, from: &First) -> Result<First, OutOfMemory>
 }
 
 fn param(alloc: Global, from: &Param) -> Result<Param, OutOfMemory>
-    ensures { IfOk result (λ copy. parameter copy ≡ parameter from.now) }
+    ensures { IfOk result (λ copy. param_of copy ≡ param_of from.now) }
 {
     let name = match &from.name {
         None => None,
@@ -207,7 +207,7 @@ fn param(alloc: Global, from: &Param) -> Result<Param, OutOfMemory>
 }
 
 pub(crate) fn params(alloc: Global, list: &[Param]) -> Result<Vec<Param>, OutOfMemory>
-    ensures { IfOk result (λ copy. map parameter copy.items ≡ map parameter list.now) }
+    ensures { IfOk result (λ copy. map param_of copy.items ≡ map param_of list.now) }
 {
     let mut copy = Vec::new(alloc);
     for p in list {

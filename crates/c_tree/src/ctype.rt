@@ -1,7 +1,7 @@
 //! Types.
 
 ghost use Rattle.std.specs.Prelude.{◌≡◌, IfOk};
-ghost use Rattle.c_tree.specs.View.{shape};
+ghost use Rattle.c_tree.specs.View.{ty_of};
 
 use crate::OutOfMemory;
 use std::alloc::Global;
@@ -22,7 +22,7 @@ pub enum CType {
 impl CType {
     /// An equal type in memory of its own.
     pub fn again(&self, alloc: Global) -> Result<CType, OutOfMemory>
-        ensures { IfOk result (λ copy. shape copy ≡ shape self.now) }
+        ensures { IfOk result (λ copy. ty_of copy ≡ ty_of self.now) }
     {
         match self {
             CType::Int => Ok(CType::Int),

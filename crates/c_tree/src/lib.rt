@@ -7,7 +7,7 @@ mod checked;
 mod copy;
 mod ctype;
 mod edge;
-mod law;
+mod laws;
 mod name;
 mod operator;
 mod place;
@@ -21,7 +21,7 @@ pub use breach::{Breach, Broken, Least, Ranking};
 pub use checked::Checked;
 pub use ctype::CType;
 pub use edge::Edge;
-pub use law::{
+pub use laws::{
     erased_text_has_no_marker, erased_tree_is_accepted, erasing_twice_is_erasing_once,
     unmarked_text_stays,
 };

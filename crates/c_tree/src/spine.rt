@@ -3,8 +3,8 @@
 ghost use Rattle.std.specs.Prelude.{◌≡◌, ◌<◌, ◌≤◌, Some, None, false, map, All, IfOk, MatchOption};
 ghost use Rattle.std.specs.Option.{option_copied};
 ghost use Rattle.c_tree.specs.declared.tree.Expr.{size-Expr};
-ghost use Rattle.c_tree.specs.View.{expression};
-ghost use Rattle.c_tree.specs.FirstOperand.{has_first, with_first, within};
+ghost use Rattle.c_tree.specs.View.{expr_of};
+ghost use Rattle.c_tree.specs.private.FirstOperand.{has_first, with_first, within};
 
 use crate::OutOfMemory;
 use crate::tree::{Expr, ExprKind};
@@ -19,8 +19,10 @@ pub(crate) struct Spine<'a> {
 
 /// The first operand of an expression that has operands.
 fn first_operand(e: &Expr) -> Option<&Expr>
-    ensures value { MatchOption (option_copied result) (has_first (expression e.now) ≡ false) (λ a. with_first (expression e.now) (expression a) ≡ expression e.now) }
-    ensures smaller { MatchOption (option_copied result) (has_first (expression e.now) ≡ false) (λ a. size-Expr a < size-Expr e.now) }
+    ensures value { MatchOption (option_copied result) (has_first (expr_of e.now) ≡ false)
+        (λ a. with_first (expr_of e.now) (expr_of a) ≡ expr_of e.now) }
+    ensures smaller { MatchOption (option_copied result) (has_first (expr_of e.now) ≡ false)
+        (λ a. size-Expr a < size-Expr e.now) }
 {
     match &e.kind {
         ExprKind::Name(_) => None,
@@ -40,11 +42,15 @@ fn first_operand(e: &Expr) -> Option<&Expr>
 
 impl<'a> Spine<'a> {
     /// An expression, taken apart along its first operands.
-    #[tactic(auto, using(crate::proofs::FirstOperand::spines))]
+    #[tactic(auto, using(crate::proofs::FirstOperandLemmas::spines))]
     pub(crate) fn of(alloc: Global, e: &'a Expr) -> Result<Spine<'a>, OutOfMemory>
-        ensures whole { IfOk result (λ s. within (map (λ n. expression n.now) s.above.items) (expression s.end.now) ≡ expression e.now) }
-        ensures ends { IfOk result (λ s. has_first (expression s.end.now) ≡ false) }
-        ensures small { IfOk result (λ s. (size-Expr s.end.now ≤ size-Expr e.now) × All (λ n. size-Expr n.now ≤ size-Expr e.now) s.above.items) }
+        ensures whole { IfOk result
+            (λ s. within (map (λ n. expr_of n.now) s.above.items) (expr_of s.end.now)
+            ≡ expr_of e.now) }
+        ensures ends { IfOk result (λ s. has_first (expr_of s.end.now) ≡ false) }
+        ensures small { IfOk result
+            (λ s. (size-Expr s.end.now ≤ size-Expr e.now)
+            × All (λ n. size-Expr n.now ≤ size-Expr e.now) s.above.items) }
     {
         let mut above = Vec::new(alloc);
         let mut end = e;

@@ -13,9 +13,9 @@ use Rattle.std.proofs.lemmas.Map.Keys.{sorted_head}
 use Rattle.std.proofs.lemmas.Map.Made.{is_some-lookup}
 use Rattle.std.proofs.lemmas.Map.Text.{is_eq-slice_cmp}
 use Rattle.c_types.specs.Block.{known, frame_of}
-use Rattle.c_types.specs.Index.{without_last_if}
+use Rattle.c_types.specs.private.Index.{without_last_if}
 use Rattle.c_types.specs.declared.block.Block.{Block}
-use Rattle.c_types.proofs.Frames.{some_mapped}
+use Rattle.c_types.proofs.ScopeFrames.{some_mapped}
 use Rattle.c_types.proofs.Keys.{vec_cmp}
 
 -- whether a name is among the keys
@@ -23,15 +23,18 @@ abbrev pub is_key : List ℕ → List (Vec ℕ Global) → Bool
 is_key name ks = list_any (λ key. is_eq (slice_cmp nat_cmp name key.items)) ks
 
 -- the names that a block declares are its keys
-pub declares_keys : (block : Block) (name : List ℕ) → is_some (frame_of block name) ≡ is_key name (keys block.names)
+pub declares_keys : (block : Block) (name : List ℕ)
+    → is_some (frame_of block name) ≡ is_key name (keys block.names)
 declares_keys block name = some_mapped known _ ∙ is_some-lookup (λ key. is_eq (slice_cmp nat_cmp name key.items)) block.names.entries
 
-none_above : (key : Vec ℕ Global) (ks : List (Vec ℕ Global)) → AllByRecursion (λ other. vec_cmp key other ≡ Less) ks → is_key key.items ks ≡ false
+none_above : (key : Vec ℕ Global) (ks : List (Vec ℕ Global))
+    → AllByRecursion (λ other. vec_cmp key other ≡ Less) ks → is_key key.items ks ≡ false
 none_above key [] h = refl
 none_above key (k ∷ ks) h = ap (λ o. is_eq o || is_key key.items ks) h.0 ∙ none_above key ks h.1
 
 -- one key after another
-pub one_closed : (name : List ℕ) (key : Vec ℕ Global) (ks : List (Vec ℕ Global)) → IsStrictlySortedBy vec_cmp (key ∷ ks)
+pub one_closed : (name : List ℕ) (key : Vec ℕ Global) (ks : List (Vec ℕ Global))
+    → IsStrictlySortedBy vec_cmp (key ∷ ks)
     → (xs : List ℕ) → without_last_if (is_key name ks) (without_last_if (bytes_eq key.items name) xs) ≡ without_last_if (is_key name (key ∷ ks)) xs
 one_closed name key ks sorted xs =
     let flipped : is_eq (slice_cmp nat_cmp name key.items) ≡ bytes_eq key.items name = is_eq-slice_cmp name key.items ∙ nat_list_eq_equiv.symm name key.items in

@@ -9,37 +9,45 @@ use Rattle.std.proofs.lemmas.List.{append-nil, append_assoc}
 use Rattle.c_tree.specs.Scope.{Known, Frame, no_names, bound, otherwise, look_outer}
 use Rattle.c_types.specs.Block.{frame_of, frames_of, unbound}
 use Rattle.c_types.specs.declared.block.Block.{Block}
-use Rattle.c_types.specs.Index.{number_if, without_last_if, declaring}
+use Rattle.c_types.specs.private.Index.{number_if, without_last_if, declaring}
 
 -- one block within the others
-declaring_push : (n : ℕ) (fs : List Frame) (f : Frame) (name : List ℕ) → declaring n (fs ++ f ∷ []) name ≡ declaring n fs name ++ number_if (is_some (f name)) (n + length fs)
+declaring_push : (n : ℕ) (fs : List Frame) (f : Frame) (name : List ℕ)
+    → declaring n (fs ++ f ∷ []) name
+    ≡ declaring n fs name ++ number_if (is_some (f name)) (n + length fs)
 declaring_push n [] f name = append-nil _ ∙ ap (number_if (is_some (f name))) (omega arith)
 declaring_push n (g ∷ fs) f name =
     ap (λ ns. number_if (is_some (g name)) n ++ ns)
     (declaring_push (suc n) fs f name ∙ ap (λ m. declaring (suc n) fs name ++ number_if (is_some (f name)) m) (omega arith))
     ∙ sym (append_assoc (number_if (is_some (g name)) n) (declaring (suc n) fs name) _)
 
-without_last_pushed : (b : Bool) (xs : List ℕ) (n : ℕ) → without_last_if b (xs ++ number_if b n) ≡ xs
+without_last_pushed : (b : Bool) (xs : List ℕ) (n : ℕ)
+    → without_last_if b (xs ++ number_if b n) ≡ xs
 without_last_pushed true xs n = grind (arith, common_steps)
 without_last_pushed false xs n = append-nil xs
 
 -- a new block declares nothing
-pub opened : (fs : List Frame) (f fresh : Frame) (name : List ℕ) → fresh ≡ no_names → declaring 0 ((fs ++ f ∷ []) ++ fresh ∷ []) name ≡ declaring 0 (fs ++ f ∷ []) name
+pub opened : (fs : List Frame) (f fresh : Frame) (name : List ℕ) → fresh ≡ no_names
+    → declaring 0 ((fs ++ f ∷ []) ++ fresh ∷ []) name ≡ declaring 0 (fs ++ f ∷ []) name
 opened fs f fresh name empty =
     declaring_push 0 (fs ++ f ∷ []) fresh name
     ∙ (ap (λ (g : Frame). declaring 0 (fs ++ f ∷ []) name ++ number_if (is_some (g name)) (0 + length (fs ++ f ∷ []))) empty ∙ append-nil _)
 
 -- the innermost block is taken out
-pub closed : (fs : List Frame) (f : Frame) (name : List ℕ) → without_last_if (is_some (f name)) (declaring 0 (fs ++ f ∷ []) name) ≡ declaring 0 fs name
+pub closed : (fs : List Frame) (f : Frame) (name : List ℕ)
+    → without_last_if (is_some (f name)) (declaring 0 (fs ++ f ∷ []) name) ≡ declaring 0 fs name
 closed fs f name = ap (without_last_if (is_some (f name))) (declaring_push 0 fs f name) ∙ without_last_pushed (is_some (f name)) (declaring 0 fs name) (0 + length fs)
 
 -- only whether a block declares the name counts
-declaring_alike : (fs : List Frame) (f g : Frame) (name : List ℕ) → is_some (f name) ≡ is_some (g name) → declaring 0 (fs ++ f ∷ []) name ≡ declaring 0 (fs ++ g ∷ []) name
+declaring_alike : (fs : List Frame) (f g : Frame) (name : List ℕ)
+    → is_some (f name) ≡ is_some (g name)
+    → declaring 0 (fs ++ f ∷ []) name ≡ declaring 0 (fs ++ g ∷ []) name
 declaring_alike fs f g name same =
     declaring_push 0 fs f name ∙ (ap (λ b. declaring 0 fs name ++ number_if b (0 + length fs)) same ∙ sym (declaring_push 0 fs g name))
 
 -- a name that the block had
-bound_again : (name : List ℕ) (entry : Known) (f : Frame) → is_some (f name) ≡ true → (other : List ℕ) → is_some (f other) ≡ is_some (bound name entry f other)
+bound_again : (name : List ℕ) (entry : Known) (f : Frame) → is_some (f name) ≡ true
+    → (other : List ℕ) → is_some (f other) ≡ is_some (bound name entry f other)
 bound_again name entry f here other =
     ⊎_elim
     (λ y. subst (λ n. is_some (f n) ≡ true) ((bytes_decides name other).0 y) here ∙ sym (ap is_some (cond-true (bytes_eq name other) (Some entry) (f other) y)))
@@ -60,12 +68,14 @@ bound_newly name entry f absent n other =
     ∙ (append-nil _ ∙ sym (ap (λ o. number_if (is_some o) n) (cond-false (bytes_eq name other) (Some entry) (f other) e))))
     (cases_Bool (bytes_eq name other))
 
-pub declared_again : (fs : List Frame) (f new : Frame) (name : List ℕ) (entry : Known) → new ≡ bound name entry f → is_some (f name) ≡ true
+pub declared_again : (fs : List Frame) (f new : Frame) (name : List ℕ) (entry : Known)
+    → new ≡ bound name entry f → is_some (f name) ≡ true
     → (other : List ℕ) → declaring 0 (fs ++ f ∷ []) other ≡ declaring 0 (fs ++ new ∷ []) other
 declared_again fs f new name entry is here other =
     declaring_alike fs f new other (bound_again name entry f here other ∙ ap (λ (g : Frame). is_some (g other)) (sym is))
 
-pub declared_newly : (fs : List Frame) (f new : Frame) (name : List ℕ) (entry : Known) → new ≡ bound name entry f → is_some (f name) ≡ false
+pub declared_newly : (fs : List Frame) (f new : Frame) (name : List ℕ) (entry : Known)
+    → new ≡ bound name entry f → is_some (f name) ≡ false
     → (other : List ℕ) → declaring 0 (fs ++ f ∷ []) other ++ number_if (bytes_eq name other) (0 + length fs) ≡ declaring 0 (fs ++ new ∷ []) other
 declared_newly fs f new name entry is absent other =
     let n = 0 + length fs in
@@ -78,12 +88,15 @@ none_from : {A : Type 0} (o : Option A) → is_some o ≡ false → None ≡ o
 none_from None h = refl
 none_from (Some x) h = absurd (true≢false h)
 
-unbound_at : (b : Bool) (entry : Known) (o : Option Known) → (b ≡ true → None ≡ o) → cond b None (cond b (Some entry) o) ≡ o
+unbound_at : (b : Bool) (entry : Known) (o : Option Known) → (b ≡ true → None ≡ o)
+    → cond b None (cond b (Some entry) o) ≡ o
 unbound_at true entry o h = h refl
 unbound_at false entry o h = refl
 
 -- a new name is taken back
-pub taken_back : (name : List ℕ) (entry : Known) (f with_it without_it : Frame) → with_it ≡ bound name entry f → without_it ≡ unbound name with_it → is_some (f name) ≡ false → without_it ≡ f
+pub taken_back : (name : List ℕ) (entry : Known) (f with_it without_it : Frame)
+    → with_it ≡ bound name entry f → without_it ≡ unbound name with_it → is_some (f name) ≡ false
+    → without_it ≡ f
 taken_back name entry f with_it without_it put taken absent =
     taken
     ∙ (ap (unbound name) put
@@ -97,7 +110,8 @@ record Found (n : ℕ) (fs : List Frame) (name : List ℕ) : Type 0 where
   same : look_outer fs name ≡ get_or fs at no_names name
   there : is_some (look_outer fs name) ≡ true
 
-last_behind : (b : Bool) (n : ℕ) (ns : List ℕ) (k : ℕ) → slice_get ns (length ns - 1) ≡ Some k → slice_get (number_if b n ++ ns) (length (number_if b n ++ ns) - 1) ≡ Some k
+last_behind : (b : Bool) (n : ℕ) (ns : List ℕ) (k : ℕ) → slice_get ns (length ns - 1) ≡ Some k
+    → slice_get (number_if b n ++ ns) (length (number_if b n ++ ns) - 1) ≡ Some k
 last_behind false n ns k h = h
 last_behind true n [] k h = grind (arith, common_steps, h)
 last_behind true n (m ∷ ms) k h =
@@ -109,7 +123,8 @@ first_some : (x y : Option Known) → is_some x ≡ true → otherwise x y ≡ x
 first_some (Some x) y h = refl
 first_some None y h = absurd (true≢false (sym h))
 
-find : (n : ℕ) (fs : List Frame) (name : List ℕ) → ((declaring n fs name ≡ []) × (look_outer fs name ≡ None)) ⊎ Found n fs name
+find : (n : ℕ) (fs : List Frame) (name : List ℕ)
+    → ((declaring n fs name ≡ []) × (look_outer fs name ≡ None)) ⊎ Found n fs name
 find n [] name = inl (refl, refl)
 find n (f ∷ fs) name =
     ⊎_elim
@@ -132,10 +147,13 @@ find n (f ∷ fs) name =
     }))
     (find (suc n) fs name)
 
-pub found_none : (fs : List Frame) (name : List ℕ) → slice_get (declaring 0 fs name) (length (declaring 0 fs name) - 1) ≡ None → look_outer fs name ≡ None
+pub found_none : (fs : List Frame) (name : List ℕ)
+    → slice_get (declaring 0 fs name) (length (declaring 0 fs name) - 1) ≡ None
+    → look_outer fs name ≡ None
 found_none fs name h = ⊎_elim (λ none. none.1) (λ r. grind (arith, h, r.last)) (find 0 fs name)
 
-pub found_some : (fs : List Frame) (name : List ℕ) (number : ℕ) → slice_get (declaring 0 fs name) (length (declaring 0 fs name) - 1) ≡ Some number
+pub found_some : (fs : List Frame) (name : List ℕ) (number : ℕ)
+    → slice_get (declaring 0 fs name) (length (declaring 0 fs name) - 1) ≡ Some number
     → (number < length fs) × (look_outer fs name ≡ get_or fs number no_names name)
 found_some fs name number h =
     ⊎_elim
@@ -154,12 +172,14 @@ none_behind (Some x) = refl
 none_behind None = refl
 
 -- the innermost block as the last of all
-pub look_all : (fs : List Frame) (f : Frame) (name : List ℕ) → look_outer (fs ++ f ∷ []) name ≡ otherwise (f name) (look_outer fs name)
+pub look_all : (fs : List Frame) (f : Frame) (name : List ℕ)
+    → look_outer (fs ++ f ∷ []) name ≡ otherwise (f name) (look_outer fs name)
 look_all [] f name = none_behind (f name)
 look_all (g ∷ fs) f name = ap (λ o. otherwise o (g name)) (look_all fs f name) ∙ otherwise_assoc (f name) (look_outer fs name) (g name)
 
 -- the block of a number, where the innermost comes last
-pub frame_at : (bs : List Block) (b : Block) (i : ℕ) → i < length (frames_of bs ++ frame_of b ∷ []) → get_or (frames_of bs ++ frame_of b ∷ []) i no_names ≡ frame_of (get_or bs i b)
+pub frame_at : (bs : List Block) (b : Block) (i : ℕ) → i < length (frames_of bs ++ frame_of b ∷ [])
+    → get_or (frames_of bs ++ frame_of b ∷ []) i no_names ≡ frame_of (get_or bs i b)
 frame_at [] b zero h = refl
 frame_at [] b (suc i) h = absurd (omega (arith, h))
 frame_at (x ∷ bs) b zero h = refl

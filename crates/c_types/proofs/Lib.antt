@@ -1,7 +1,7 @@
 mod Closing
 mod Declaring
 pub mod Descent
-pub mod Faults
-mod Frames
+pub mod TypeFaultsLemmas
+mod ScopeFrames
 pub mod Keys
-mod Numbers
+mod IndexNumbers

@@ -1,8 +1,8 @@
 pub mod Block
 pub mod Call
-pub mod Constant
+pub mod ConstantAnswers
 pub mod Env
-pub mod Fault
-pub mod Index
 pub mod Seen
 pub mod Spine
+pub mod TypeFaults
+pub mod private

@@ -50,8 +50,10 @@ impl Block {
         name: &Name,
         entry: Known,
     ) -> Result<Option<Known>, OutOfMemory>
-        ensures before { IfOk result (λ before. option_map known before ≡ frame_of self.old name.now) }
-        ensures bound { OnOk result (frame_of self.new ≡ bound name.now (known entry) (frame_of self.old)) }
+        ensures before { IfOk result
+            (λ before. option_map known before ≡ frame_of self.old name.now) }
+        ensures bound { OnOk result
+            (frame_of self.new ≡ bound name.now (known entry) (frame_of self.old)) }
         ensures refused { OnErr result (frame_of self.new ≡ frame_of self.old) }
     {
         let bytes = Vec::from_slice(alloc, name.get())?;

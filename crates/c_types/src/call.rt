@@ -1,10 +1,10 @@
 //! Calls: what they name, and whether their arguments fit.
 
-ghost use Rattle.std.specs.Prelude.{◌≡◌, ◌&&◌, false, not, is_some, map, None, Some, if◌then◌else◌};
+ghost use Rattle.std.specs.Prelude.{◌≡◌, ◌&&◌, false, not, map, None, Some, if◌then◌else◌};
 ghost use Rattle.std.specs.Option.{option_map, option_copied};
-ghost use Rattle.c_tree.specs.Syntax.{IntShape};
-ghost use Rattle.c_tree.specs.View.{shape};
-ghost use Rattle.c_tree.specs.Breach.{least_of, breach, unless};
+ghost use Rattle.c_tree.specs.Ty as the_ty;
+ghost use Rattle.c_tree.specs.View.{ty_of};
+ghost use Rattle.c_tree.specs.Breach.{Adds};
 ghost use Rattle.c_tree.specs.Rules.{where_right};
 ghost use Rattle.c_tree.specs.Typing.{called, result_of, parameters_of, is_none_left, others, is_taken, takes_first};
 ghost use Rattle.c_tree.specs.Breaches.{may_take, may_take_first, passing_breaches, call_breaches};
@@ -94,9 +94,12 @@ impl<'a> Parameters<'a> {
 
     /// One more argument.
     pub fn pass(self, passed: Passed, nought: bool, ty: Option<Seen<'a>>) -> Passed
-        ensures counts { result.counts ≡ (passed.counts && not (is_none_left (parameters self.entry))) }
-        ensures fits { result.fits ≡ (passed.fits && may_take_first (parameters self.entry) nought (seen_some ty.entry)) }
-        ensures typed { result.typed ≡ (passed.typed && takes_first (parameters self.entry) nought (seen_some ty.entry)) }
+        ensures counts { result.counts
+            ≡ (passed.counts && not (is_none_left (parameters self.entry))) }
+        ensures fits { result.fits
+            ≡ (passed.fits && may_take_first (parameters self.entry) nought (seen_some ty.entry)) }
+        ensures typed { result.typed
+            ≡ (passed.typed && takes_first (parameters self.entry) nought (seen_some ty.entry)) }
     {
         match self {
             Parameters::OneInt => pass_to(passed, Seen::Is(Base::Int), nought, ty),
@@ -120,7 +123,7 @@ impl<'a> Parameters<'a> {
 }
 
 fn others(types: &[CType]) -> &[CType]
-    ensures { map shape result.now ≡ others (map shape types.now) }
+    ensures { map ty_of result.now ≡ others (map ty_of types.now) }
 {
     match types {
         [] => types,
@@ -129,7 +132,7 @@ fn others(types: &[CType]) -> &[CType]
 }
 
 fn is_none_left(types: &[CType]) -> bool
-    ensures { result ≡ is_none_left (map shape types.now) }
+    ensures { result ≡ is_none_left (map ty_of types.now) }
 {
     match types {
         [] => true,
@@ -139,8 +142,10 @@ fn is_none_left(types: &[CType]) -> bool
 
 fn pass_to<'a>(passed: Passed, to: Seen<'a>, nought: bool, ty: Option<Seen<'a>>) -> Passed
     ensures counts { result.counts ≡ passed.counts }
-    ensures fits { result.fits ≡ (passed.fits && may_take (seen to.entry) nought (seen_some ty.entry)) }
-    ensures typed { result.typed ≡ (passed.typed && is_taken (seen to.entry) nought (seen_some ty.entry)) }
+    ensures fits { result.fits
+        ≡ (passed.fits && may_take (seen to.entry) nought (seen_some ty.entry)) }
+    ensures typed { result.typed
+        ≡ (passed.typed && is_taken (seen to.entry) nought (seen_some ty.entry)) }
 {
     let fits = may_take(to, nought, ty);
     let typed = is_taken(to, nought, ty);
@@ -152,9 +157,11 @@ fn pass_to<'a>(passed: Passed, to: Seen<'a>, nought: bool, ty: Option<Seen<'a>>)
 }
 
 fn pass_listed<'a>(passed: Passed, types: &'a [CType], nought: bool, ty: Option<Seen<'a>>) -> Passed
-    ensures counts { result.counts ≡ (passed.counts && not (is_none_left (map shape types.now))) }
-    ensures fits { result.fits ≡ (passed.fits && may_take_first (map shape types.now) nought (seen_some ty.entry)) }
-    ensures typed { result.typed ≡ (passed.typed && takes_first (map shape types.now) nought (seen_some ty.entry)) }
+    ensures counts { result.counts ≡ (passed.counts && not (is_none_left (map ty_of types.now))) }
+    ensures fits { result.fits
+        ≡ (passed.fits && may_take_first (map ty_of types.now) nought (seen_some ty.entry)) }
+    ensures typed { result.typed
+        ≡ (passed.typed && takes_first (map ty_of types.now) nought (seen_some ty.entry)) }
 {
     match types {
         [] => Passed {
@@ -168,7 +175,8 @@ fn pass_listed<'a>(passed: Passed, types: &'a [CType], nought: bool, ty: Option<
 
 /// Notes what a call of a function breaks.
 fn note_call(is_void_used: bool, passed: Passed, at: Place, least: &mut Least)
-    ensures { least.new ≡ least_of least.old (passing_breaches is_void_used passed.counts passed.fits at) }
+    ensures { Adds least.old least.new
+        (passing_breaches is_void_used passed.counts passed.fits at) }
 {
     if is_void_used {
         note(least, false, Broken::Mismatch, at);
@@ -186,8 +194,11 @@ fn call_known<'a>(
     at: Place,
     least: &mut Least,
 ) -> Option<Seen<'a>>
-    ensures ty { seen_some result ≡ where_right passed.typed (result_of (option_map known (option_copied found.entry))) }
-    ensures least { least.new ≡ least_of least.old (call_breaches used (option_map known (option_copied found.entry)) passed.counts passed.fits at) }
+    ensures ty { seen_some result
+        ≡ where_right passed.typed (result_of (option_map known (option_copied found.entry))) }
+    ensures least { Adds least.old least.new
+        (call_breaches used (option_map known (option_copied found.entry)) passed.counts
+        passed.fits at) }
 {
     match found {
         None => {
@@ -218,8 +229,8 @@ fn call_known<'a>(
 }
 
 fn call_built_in<'a>(passed: Passed, at: Place, least: &mut Least) -> Option<Seen<'a>>
-    ensures ty { seen_some result ≡ where_right passed.typed (Some IntShape) }
-    ensures least { least.new ≡ least_of least.old (passing_breaches false passed.counts passed.fits at) }
+    ensures ty { seen_some result ≡ where_right passed.typed (Some the_ty.Int) }
+    ensures least { Adds least.old least.new (passing_breaches false passed.counts passed.fits at) }
 {
     note_call(false, passed, at, least);
     if passed.typed {
@@ -230,7 +241,7 @@ fn call_built_in<'a>(passed: Passed, at: Place, least: &mut Least) -> Option<See
 }
 
 /// The type of a call's value, where it has one.
-pub fn call<'a>(
+pub fn type_call<'a>(
     name: Target<'a>,
     used: bool,
     passed: Passed,
@@ -238,7 +249,8 @@ pub fn call<'a>(
     least: &mut Least,
 ) -> Option<Seen<'a>>
     ensures ty { seen_some result ≡ where_right passed.typed (result_of (target name.entry)) }
-    ensures least { least.new ≡ least_of least.old (call_breaches used (target name.entry) passed.counts passed.fits at) }
+    ensures least { Adds least.old least.new
+        (call_breaches used (target name.entry) passed.counts passed.fits at) }
 {
     match name {
         Target::Found(found) => call_known(found, used, passed, at, least),

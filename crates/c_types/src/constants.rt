@@ -3,21 +3,23 @@
 ghost use Rattle.std.specs.Prelude.{◌≡◌, ◌&&◌, true, false, is_some, option_map, Some, None};
 ghost use Rattle.std.specs.Option.{option_copied};
 ghost use Rattle.c_tree.specs.declared.breach.Least.{Least};
-ghost use Rattle.c_tree.specs.View.{expression, shape};
-ghost use Rattle.c_tree.specs.Breach.{least_of};
+ghost use Rattle.c_tree.specs.View.{expr_of, ty_of};
+ghost use Rattle.c_tree.specs.Breach.{least_of, Adds};
 ghost use Rattle.c_tree.specs.Shapes.{common, is_unsigned, is_integer};
-ghost use Rattle.c_tree.specs.Words.{converted, given, prefix_word};
-ghost use Rattle.c_tree.specs.Constant.{prefix_shape, infix_shape, integer_shape, constant_shape, is_unsigned_act, on_one, needs_second, infix_value, chosen, value_of, is_ready, act_breaches, foreign_name, foreign, constant_breaches};
-ghost use Rattle.c_types.specs.Constant.{integer};
+ghost use Rattle.c_tree.specs.Arithmetic.{converted, given, unary_word};
+ghost use Rattle.c_tree.specs.Constant.{unary_shape, binary_shape, integer_shape, constant_shape, is_unsigned_act, on_one, needs_second, binary_value, chosen, value_of, is_ready, act_breaches, foreign_name, foreign, constant_breaches};
+ghost use Rattle.c_types.specs.ConstantAnswers.{integer};
 ghost use Rattle.c_types.specs.Env.{scope_of};
 ghost use Rattle.c_types.specs.Spine.{constant_operand, below, down};
 
 use crate::env::Env;
-use crate::integers::{Integer, infix_type, infix_value, is_ready, is_unsigned_act, needs_second};
+use crate::integers::{
+    Integer, binary_type, binary_value, is_ready, is_unsigned_act, needs_second,
+};
 use crate::least::note;
 use crate::spine::{Along, LIMIT, descend, follow, is_arithmetic, is_integer};
 use crate::typing::walk;
-use crate::words::{convert, prefix_word};
+use crate::words::{convert, unary_word};
 use c_tree::{Binary, Broken, CType, Expr, ExprKind, Least, Name, Place, Unary};
 
 /// What is known of an expression as a constant: its type, and its value where it has one.
@@ -29,7 +31,7 @@ pub struct Evaluation {
 
 /// Notes an act that is evaluated and undefined.
 fn note_act(live: bool, ready: bool, value: Option<u32>, at: Place, least: &mut Least)
-    ensures { least.new ≡ least_of least.old (act_breaches live ready value at) }
+    ensures { Adds least.old least.new (act_breaches live ready value at) }
 {
     note(
         least,
@@ -39,14 +41,22 @@ fn note_act(live: bool, ready: bool, value: Option<u32>, at: Place, least: &mut 
     );
 }
 
-fn prefix(op: Unary, first: Evaluation, live: bool, at: Place, least: &mut Least) -> Evaluation
-    ensures ty { integer result.ty ≡ prefix_shape op (integer first.ty) }
-    ensures value { result.value ≡ on_one (λ x. given (prefix_word op (is_unsigned (integer first.ty)) x)) first.value }
-    ensures least { least.new ≡ least_of least.old (act_breaches live (is_some first.value) result.value at) }
+fn evaluate_unary(
+    op: Unary,
+    first: Evaluation,
+    live: bool,
+    at: Place,
+    least: &mut Least,
+) -> Evaluation
+    ensures ty { integer result.ty ≡ unary_shape op (integer first.ty) }
+    ensures value { result.value
+        ≡ on_one (λ x. given (unary_word op (is_unsigned (integer first.ty)) x)) first.value }
+    ensures least { Adds least.old least.new
+        (act_breaches live (is_some first.value) result.value at) }
 {
     let value = match first.value {
         None => None,
-        Some(x) => prefix_word(op, first.ty.is_unsigned(), x),
+        Some(x) => unary_word(op, first.ty.is_unsigned(), x),
     };
     note_act(live, first.value.is_some(), value, at, least);
     let ty = match op {
@@ -56,9 +66,9 @@ fn prefix(op: Unary, first: Evaluation, live: bool, at: Place, least: &mut Least
     Evaluation { ty, value }
 }
 
-fn cast(to: &CType, first: Evaluation) -> Evaluation
-    ensures ty { integer result.ty ≡ integer_shape (shape to.now) }
-    ensures value { result.value ≡ on_one (λ x. Some (converted (shape to.now) x)) first.value }
+fn evaluate_cast(to: &CType, first: Evaluation) -> Evaluation
+    ensures ty { integer result.ty ≡ integer_shape (ty_of to.now) }
+    ensures value { result.value ≡ on_one (λ x. Some (converted (ty_of to.now) x)) first.value }
 {
     let value = match first.value {
         None => None,
@@ -70,7 +80,7 @@ fn cast(to: &CType, first: Evaluation) -> Evaluation
     }
 }
 
-fn infix(
+fn evaluate_binary(
     op: Binary,
     left: Evaluation,
     right: Evaluation,
@@ -78,12 +88,15 @@ fn infix(
     at: Place,
     least: &mut Least,
 ) -> Evaluation
-    ensures ty { integer result.ty ≡ infix_shape op (integer left.ty) (integer right.ty) }
-    ensures value { result.value ≡ infix_value op (is_unsigned_act op (integer left.ty) (integer right.ty)) left.value right.value }
-    ensures least { least.new ≡ least_of least.old (act_breaches live (is_ready op left.value right.value) result.value at) }
+    ensures ty { integer result.ty ≡ binary_shape op (integer left.ty) (integer right.ty) }
+    ensures value { result.value
+        ≡ binary_value op (is_unsigned_act op (integer left.ty) (integer right.ty)) left.value
+        right.value }
+    ensures least { Adds least.old least.new
+        (act_breaches live (is_ready op left.value right.value) result.value at) }
 {
     let unsigned = is_unsigned_act(op, left.ty, right.ty);
-    let value = infix_value(op, unsigned, left.value, right.value);
+    let value = binary_value(op, unsigned, left.value, right.value);
     note_act(
         live,
         is_ready(op, left.value, right.value),
@@ -92,7 +105,7 @@ fn infix(
         least,
     );
     Evaluation {
-        ty: infix_type(op, left.ty, right.ty),
+        ty: binary_type(op, left.ty, right.ty),
         value,
     }
 }
@@ -115,7 +128,7 @@ fn is_right(test: Option<u32>) -> bool
     }
 }
 
-fn choose(test: Option<u32>, left: Evaluation, right: Evaluation) -> Evaluation
+fn evaluate_conditional(test: Option<u32>, left: Evaluation, right: Evaluation) -> Evaluation
     ensures ty { integer result.ty ≡ common (integer left.ty) (integer right.ty) }
     ensures value { result.value ≡ chosen None test left.value right.value }
 {
@@ -135,7 +148,8 @@ const NO_CONSTANT: Evaluation = Evaluation {
 };
 
 fn note_name(name: &Name, env: Option<&Env>, at: Place, least: &mut Least)
-    ensures { least.new ≡ least_of least.old (foreign_name (option_map scope_of (option_copied env.entry)) name.now at) }
+    ensures { Adds least.old least.new
+        (foreign_name (option_map scope_of (option_copied env.entry)) name.now at) }
 {
     match env {
         None => note(least, false, Broken::NotConstant, at),
@@ -152,7 +166,8 @@ fn note_name(name: &Name, env: Option<&Env>, at: Place, least: &mut Least)
 /// Notes what a node breaks that is no form of a constant, and no name.
 #[tactic(auto, using(c_tree::proofs::LeastBreach::append_rules))]
 fn note_foreign(e: &Expr, env: Option<&Env>, least: &mut Least)
-    ensures { least.new ≡ least_of least.old (foreign (option_map scope_of (option_copied env.entry)) (expression e.now) e.now.place) }
+    ensures { Adds least.old least.new
+        (foreign (option_map scope_of (option_copied env.entry)) (expr_of e.now) e.now.place) }
 {
     if let Some(env) = env {
         let _ty = walk(e, env, true, least);
@@ -161,12 +176,13 @@ fn note_foreign(e: &Expr, env: Option<&Env>, least: &mut Least)
 }
 
 /// What is known of an expression without an operand of a constant.
-#[tactic(auto, using(c_tree::proofs::Views::views, c_tree::proofs::LeastBreach::append_rules))]
-fn leaf(e: &Expr, live: bool, env: Option<&Env>, least: &mut Least) -> Evaluation
-    requires { constant_operand (expression e.now) ≡ None }
-    ensures ty { integer result.ty ≡ constant_shape (expression e.now) }
-    ensures value { result.value ≡ value_of (expression e.now) }
-    ensures least { least.new ≡ least_of least.old (constant_breaches (option_map scope_of (option_copied env.entry)) live (expression e.now)) }
+#[tactic(auto, using(c_tree::proofs::ViewLemmas::views, c_tree::proofs::LeastBreach::append_rules))]
+fn evaluate_leaf(e: &Expr, live: bool, env: Option<&Env>, least: &mut Least) -> Evaluation
+    requires { constant_operand (expr_of e.now) ≡ None }
+    ensures ty { integer result.ty ≡ constant_shape (expr_of e.now) }
+    ensures value { result.value ≡ value_of (expr_of e.now) }
+    ensures least { Adds least.old least.new
+        (constant_breaches (option_map scope_of (option_copied env.entry)) live (expr_of e.now)) }
 {
     match &e.kind {
         ExprKind::Number(ty, n) => {
@@ -222,31 +238,37 @@ fn leaf(e: &Expr, live: bool, env: Option<&Env>, least: &mut Least) -> Evaluatio
 
 /// What is known of an expression from what is known of its first operand, whose breaches were noted.
 #[cycle(constants)]
-#[tactic(auto, using(c_tree::proofs::Views::views, c_tree::proofs::LeastBreach::append_rules))]
-fn above(
+#[tactic(auto, using(c_tree::proofs::ViewLemmas::views, c_tree::proofs::LeastBreach::append_rules))]
+fn evaluate_above(
     e: &Expr,
     first: Evaluation,
     live: bool,
     env: Option<&Env>,
     least: &mut Least,
 ) -> Evaluation
-    requires ty { integer first.ty ≡ constant_shape (below Along.Constants (expression e.now)) }
-    requires value { first.value ≡ value_of (below Along.Constants (expression e.now)) }
-    ensures ty { integer result.ty ≡ constant_shape (expression e.now) }
-    ensures value { result.value ≡ value_of (expression e.now) }
-    ensures least { (start : Least) → least.old ≡ least_of start (constant_breaches (option_map scope_of (option_copied env.entry)) live (below Along.Constants (expression e.now))) → least.new ≡ least_of start (constant_breaches (option_map scope_of (option_copied env.entry)) live (expression e.now)) }
+    requires ty { integer first.ty ≡ constant_shape (below Along.Constants (expr_of e.now)) }
+    requires value { first.value ≡ value_of (below Along.Constants (expr_of e.now)) }
+    ensures ty { integer result.ty ≡ constant_shape (expr_of e.now) }
+    ensures value { result.value ≡ value_of (expr_of e.now) }
+    ensures least { (start : Least)
+        → least.old ≡ least_of start
+        (constant_breaches (option_map scope_of (option_copied env.entry)) live
+        (below Along.Constants (expr_of e.now)))
+        → least.new ≡ least_of start
+        (constant_breaches (option_map scope_of (option_copied env.entry)) live
+        (expr_of e.now)) }
 {
     match &e.kind {
         ExprKind::Unary(op, _) => {
             if is_arithmetic(*op) {
-                prefix(*op, first, live, e.place, least)
+                evaluate_unary(*op, first, live, e.place, least)
             } else {
                 first
             }
         }
         ExprKind::Cast(to, _) => {
             if is_integer(to) {
-                cast(to, first)
+                evaluate_cast(to, first)
             } else {
                 first
             }
@@ -254,14 +276,14 @@ fn above(
         ExprKind::Binary(op, _, b) => {
             let needed = live && needs_second(*op, first.value);
             let second = evaluate(b, needed, env, least);
-            infix(*op, first, second, live, e.place, least)
+            evaluate_binary(*op, first, second, live, e.place, least)
         }
         ExprKind::Conditional(_, a, b) => {
             let is_left_live = live && is_left(first.value);
             let is_right_live = live && is_right(first.value);
             let left = evaluate(a, is_left_live, env, least);
             let right = evaluate(b, is_right_live, env, least);
-            choose(first.value, left, right)
+            evaluate_conditional(first.value, left, right)
         }
         ExprKind::Name(_) => first,
         ExprKind::Number(_, _) => first,
@@ -284,18 +306,24 @@ fn rise(
     env: Option<&Env>,
     least: &mut Least,
 ) -> Evaluation
-    requires ty { integer end.ty ≡ constant_shape (down Along.Constants count (expression e.now)) }
-    requires value { end.value ≡ value_of (down Along.Constants count (expression e.now)) }
-    ensures ty { integer result.ty ≡ constant_shape (expression e.now) }
-    ensures value { result.value ≡ value_of (expression e.now) }
-    ensures least { (start : Least) → least.old ≡ least_of start (constant_breaches (option_map scope_of (option_copied env.entry)) live (down Along.Constants count (expression e.now))) → least.new ≡ least_of start (constant_breaches (option_map scope_of (option_copied env.entry)) live (expression e.now)) }
+    requires ty { integer end.ty ≡ constant_shape (down Along.Constants count (expr_of e.now)) }
+    requires value { end.value ≡ value_of (down Along.Constants count (expr_of e.now)) }
+    ensures ty { integer result.ty ≡ constant_shape (expr_of e.now) }
+    ensures value { result.value ≡ value_of (expr_of e.now) }
+    ensures least { (start : Least)
+        → least.old ≡ least_of start
+        (constant_breaches (option_map scope_of (option_copied env.entry)) live
+        (down Along.Constants count (expr_of e.now)))
+        → least.new ≡ least_of start
+        (constant_breaches (option_map scope_of (option_copied env.entry)) live
+        (expr_of e.now)) }
 {
     let mut known = end;
     let mut left = count;
     while 0 < left {
         left -= 1;
         let node = descend(Along::Constants, e, left);
-        known = above(node, known, live, env, least);
+        known = evaluate_above(node, known, live, env, least);
     }
     known
 }
@@ -304,13 +332,14 @@ fn rise(
 /// expression is evaluated, and with an environment also what is broken within nodes that are no form of a constant.
 #[cycle(constants)]
 pub fn evaluate(e: &Expr, live: bool, env: Option<&Env>, least: &mut Least) -> Evaluation
-    ensures ty { integer result.ty ≡ constant_shape (expression e.now) }
-    ensures value { result.value ≡ value_of (expression e.now) }
-    ensures least { least.new ≡ least_of least.old (constant_breaches (option_map scope_of (option_copied env.entry)) live (expression e.now)) }
+    ensures ty { integer result.ty ≡ constant_shape (expr_of e.now) }
+    ensures value { result.value ≡ value_of (expr_of e.now) }
+    ensures least { Adds least.old least.new
+        (constant_breaches (option_map scope_of (option_copied env.entry)) live (expr_of e.now)) }
 {
     let lowest = follow(Along::Constants, e);
     if lowest.count < LIMIT {
-        let end = leaf(lowest.end, live, env, least);
+        let end = evaluate_leaf(lowest.end, live, env, least);
         rise(e, lowest.count, end, live, env, least)
     } else {
         let end = evaluate(lowest.end, live, env, least);

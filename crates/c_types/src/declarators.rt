@@ -4,7 +4,7 @@ ghost use Rattle.std.specs.Prelude.{◌≡◌, IfOk, map};
 ghost use Rattle.c_tree.specs.Accepted.{parameter_shapes};
 ghost use Rattle.c_tree.specs.Constant.{value_of};
 ghost use Rattle.c_tree.specs.Declarators.{pointers, count_of, sized, pointer_where, parameter_shape};
-ghost use Rattle.c_tree.specs.View.{expression, expressions, parameter, shape};
+ghost use Rattle.c_tree.specs.View.{expr_of, exprs_of, param_of, ty_of};
 
 use crate::constants::evaluate;
 use crate::least::none_found;
@@ -12,14 +12,14 @@ use c_tree::{CType, Expr, OutOfMemory, Param, Ranking};
 use std::alloc::Global;
 
 fn point(alloc: Global, to: CType) -> Result<CType, OutOfMemory>
-    ensures { IfOk result (λ ty. shape ty ≡ pointers 1 (shape to)) }
+    ensures { IfOk result (λ ty. ty_of ty ≡ pointers 1 (ty_of to)) }
 {
     Ok(CType::Pointer(Box::new(alloc, to)?))
 }
 
 /// A type with stars before it.
-pub fn pointed(alloc: Global, base: &CType, stars: u32) -> Result<CType, OutOfMemory>
-    ensures { IfOk result (λ ty. shape ty ≡ pointers stars (shape base.now)) }
+pub fn pointer_to(alloc: Global, base: &CType, stars: u32) -> Result<CType, OutOfMemory>
+    ensures { IfOk result (λ ty. ty_of ty ≡ pointers stars (ty_of base.now)) }
 {
     let mut ty = base.again(alloc)?;
     for _star in 0..stars {
@@ -30,22 +30,23 @@ pub fn pointed(alloc: Global, base: &CType, stars: u32) -> Result<CType, OutOfMe
 
 /// A pointer to a type, where a parameter is written as an array.
 fn pointer_where(alloc: Global, array: bool, ty: CType) -> Result<CType, OutOfMemory>
-    ensures { IfOk result (λ pointer. shape pointer ≡ pointer_where array (shape ty)) }
+    ensures { IfOk result (λ pointer. ty_of pointer ≡ pointer_where array (ty_of ty)) }
 {
     if array { point(alloc, ty) } else { Ok(ty) }
 }
 
 /// A parameter's type: `[]` is a pointer (C11 6.7.6.3).
 pub fn parameter_type(alloc: Global, p: &Param) -> Result<CType, OutOfMemory>
-    ensures { IfOk result (λ ty. shape ty ≡ parameter_shape (parameter p.now)) }
+    ensures { IfOk result (λ ty. ty_of ty ≡ parameter_shape (param_of p.now)) }
 {
-    let ty = pointed(alloc, &p.base, p.stars)?;
+    let ty = pointer_to(alloc, &p.base, p.stars)?;
     pointer_where(alloc, p.array, ty)
 }
 
 /// The types of some parameters.
 pub fn parameter_types(alloc: Global, params: &[Param]) -> Result<Vec<CType>, OutOfMemory>
-    ensures { IfOk result (λ types. map shape types.items ≡ parameter_shapes (map parameter params.now)) }
+    ensures { IfOk result (λ types. map ty_of types.items
+        ≡ parameter_shapes (map param_of params.now)) }
 {
     let mut types = Vec::new(alloc);
     for p in params {
@@ -56,7 +57,7 @@ pub fn parameter_types(alloc: Global, params: &[Param]) -> Result<Vec<CType>, Ou
 
 /// The value of a constant, where it has one.
 pub fn value_of(constant: &Expr) -> Option<u32>
-    ensures { result ≡ value_of (expression constant.now) }
+    ensures { result ≡ value_of (expr_of constant.now) }
 {
     let mut unheeded = none_found(Ranking::ForChecks);
     evaluate(constant, false, None, &mut unheeded).value
@@ -64,14 +65,14 @@ pub fn value_of(constant: &Expr) -> Option<u32>
 
 /// The number of elements that a size gives: 0 where it is no constant.
 fn count(size: &Expr) -> u32
-    ensures { result ≡ count_of (value_of (expression size.now)) }
+    ensures { result ≡ count_of (value_of (expr_of size.now)) }
 {
     value_of(size).unwrap_or(0)
 }
 
 /// Arrays of a type, the outermost size first.
-pub fn sized(alloc: Global, element: CType, sizes: &[Expr]) -> Result<CType, OutOfMemory>
-    ensures { IfOk result (λ ty. shape ty ≡ sized (expressions sizes.now) (shape element)) }
+pub fn array_of(alloc: Global, element: CType, sizes: &[Expr]) -> Result<CType, OutOfMemory>
+    ensures { IfOk result (λ ty. ty_of ty ≡ sized (exprs_of sizes.now) (ty_of element)) }
 {
     let mut ty = element;
     let mut left = sizes.len();

@@ -3,9 +3,9 @@
 ghost use Rattle.std.specs.Prelude.{◌≡◌, [], ◌∷◌, ◌++◌, ◌<◌, length, IfOk, OnOk, OnErr, option_map, is_some, map, true};
 ghost use Rattle.std.specs.Option.{option_copied};
 ghost use Rattle.c_tree.specs.Scope.{look, entered, empty_scope, declared, ObjectOf, FunctionOf};
-ghost use Rattle.c_tree.specs.View.{shape};
+ghost use Rattle.c_tree.specs.View.{ty_of};
 ghost use Rattle.c_types.specs.Block.{known, frame_of, frames_of};
-ghost use Rattle.c_types.specs.Index.{IsIndexOf};
+ghost use Rattle.c_types.specs.private.Index.{IsIndexOf};
 
 use crate::block::{Block, Known};
 use crate::index::NameIndex;
@@ -56,7 +56,8 @@ impl Env {
     /// Closes the innermost block, with a look-up for each of its names.
     pub fn leave(&mut self)
         requires { 0 < length (scope_of self.old).outer }
-        ensures { (scope_of self.old).outer ≡ (scope_of self.new).outer ++ (scope_of self.new).inner ∷ [] }
+        ensures { (scope_of self.old).outer
+            ≡ (scope_of self.new).outer ++ (scope_of self.new).inner ∷ [] }
     {
         if let Some(block) = self.outer.pop() {
             self.index.close(&self.inner);
@@ -65,7 +66,8 @@ impl Env {
     }
 
     fn bind(&mut self, name: &Name, entry: Known) -> Result<(), OutOfMemory>
-        ensures declared { OnOk result (scope_of self.new ≡ declared name.now (known entry) (scope_of self.old)) }
+        ensures declared { OnOk result
+            (scope_of self.new ≡ declared name.now (known entry) (scope_of self.old)) }
         ensures refused { OnErr result (scope_of self.new ≡ scope_of self.old) }
     {
         if self.inner.insert(self.alloc, name, entry)?.is_some() {
@@ -82,7 +84,8 @@ impl Env {
 
     /// Declares an object in the innermost block.
     pub fn declare(&mut self, name: &Name, ty: CType) -> Result<(), OutOfMemory>
-        ensures declared { OnOk result (scope_of self.new ≡ declared name.now (ObjectOf (shape ty)) (scope_of self.old)) }
+        ensures declared { OnOk result
+            (scope_of self.new ≡ declared name.now (ObjectOf (ty_of ty)) (scope_of self.old)) }
         ensures refused { OnErr result (scope_of self.new ≡ scope_of self.old) }
     {
         self.bind(name, Known::Object(ty))
@@ -95,7 +98,10 @@ impl Env {
         result_type: CType,
         params: Vec<CType>,
     ) -> Result<(), OutOfMemory>
-        ensures declared { OnOk result (scope_of self.new ≡ declared name.now (FunctionOf (shape result_type) (map shape params.items) true) (scope_of self.old)) }
+        ensures declared { OnOk result
+            (scope_of self.new ≡ declared name.now
+            (FunctionOf (ty_of result_type) (map ty_of params.items) true)
+            (scope_of self.old)) }
         ensures refused { OnErr result (scope_of self.new ≡ scope_of self.old) }
     {
         self.declare_fun_of(name, result_type, params, true)
@@ -109,7 +115,10 @@ impl Env {
         params: Vec<CType>,
         is_defined: bool,
     ) -> Result<(), OutOfMemory>
-        ensures declared { OnOk result (scope_of self.new ≡ declared name.now (FunctionOf (shape result_type) (map shape params.items) is_defined) (scope_of self.old)) }
+        ensures declared { OnOk result
+            (scope_of self.new ≡ declared name.now
+            (FunctionOf (ty_of result_type) (map ty_of params.items) is_defined)
+            (scope_of self.old)) }
         ensures refused { OnErr result (scope_of self.new ≡ scope_of self.old) }
     {
         let entry = Known::Function {

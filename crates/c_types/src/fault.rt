@@ -2,7 +2,7 @@
 
 ghost use Rattle.std.specs.Prelude.{◌≡◌, true, Some};
 ghost use Rattle.c_tree.specs.Breach.{is_typing};
-ghost use Rattle.c_types.specs.Fault.{IsFault};
+ghost use Rattle.c_types.specs.TypeFaults.{IsFault};
 
 use c_tree::{Breach, Broken, Place};
 

@@ -2,7 +2,7 @@
 
 ghost use Rattle.std.specs.Prelude.{◌≡◌, ◌-◌, ℕ, List, [], ◌++◌, length, slice_get, is_some, bytes_eq, OnOk, OnErr};
 ghost use Rattle.c_types.specs.Block.{frame_of};
-ghost use Rattle.c_types.specs.Index.{numbers_of, number_if, without_last_if};
+ghost use Rattle.c_types.specs.private.Index.{numbers_of, number_if, without_last_if};
 
 use crate::block::Block;
 use c_tree::{Name, OutOfMemory};
@@ -28,7 +28,8 @@ impl NameIndex {
 
     /// The innermost block that declares a name.
     pub(crate) fn innermost(&self, name: &Name) -> Option<usize>
-        ensures { result ≡ slice_get (numbers_of self.now name.now) (length (numbers_of self.now name.now) - 1) }
+        ensures { result ≡ slice_get (numbers_of self.now name.now)
+            (length (numbers_of self.now name.now) - 1) }
     {
         let numbers = self.numbers.get(name.get())?;
         numbers.last().copied()
@@ -36,8 +37,11 @@ impl NameIndex {
 
     /// One block more declares a name, within those that do.
     pub(crate) fn push(&mut self, name: &Name, number: usize) -> Result<(), OutOfMemory>
-        ensures pushed { OnOk result ((other : List ℕ) → numbers_of self.new other ≡ numbers_of self.old other ++ number_if (bytes_eq name.now other) number) }
-        ensures refused { OnErr result ((other : List ℕ) → numbers_of self.new other ≡ numbers_of self.old other) }
+        ensures pushed { OnOk result
+            ((other : List ℕ) → numbers_of self.new other
+            ≡ numbers_of self.old other ++ number_if (bytes_eq name.now other) number) }
+        ensures refused { OnErr result
+            ((other : List ℕ) → numbers_of self.new other ≡ numbers_of self.old other) }
     {
         if let Some(numbers) = self.numbers.get_mut(name.get()) {
             numbers.push(number)?;
@@ -50,7 +54,9 @@ impl NameIndex {
 
     /// The innermost block that declares a name does so no more.
     fn pop(&mut self, name: &[u8])
-        ensures { (other : List ℕ) → numbers_of self.new other ≡ without_last_if (bytes_eq name.now other) (numbers_of self.old other) }
+        ensures { (other : List ℕ)
+            → numbers_of self.new other
+            ≡ without_last_if (bytes_eq name.now other) (numbers_of self.old other) }
     {
         if let Some(numbers) = self.numbers.get_mut(name) {
             numbers.pop();
@@ -62,7 +68,9 @@ impl NameIndex {
 
     /// The innermost block is closed: none of its names has its number any more.
     pub(crate) fn close(&mut self, block: &Block)
-        ensures { (name : List ℕ) → numbers_of self.new name ≡ without_last_if (is_some (frame_of block.now name)) (numbers_of self.old name) }
+        ensures { (name : List ℕ)
+            → numbers_of self.new name
+            ≡ without_last_if (is_some (frame_of block.now name)) (numbers_of self.old name) }
     {
         for name in block.names.keys() {
             self.pop(name.as_slice());

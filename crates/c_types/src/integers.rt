@@ -1,12 +1,12 @@
 //! The types of constants, and what an operator does to two constants.
 
 ghost use Rattle.std.specs.Prelude.{◌≡◌, Option};
-ghost use Rattle.c_tree.specs.View.{shape};
+ghost use Rattle.c_tree.specs.View.{ty_of};
 ghost use Rattle.c_tree.specs.Shapes.{promoted, common, is_unsigned};
-ghost use Rattle.c_tree.specs.Constant.{is_shift, gives_truth, infix_shape, integer_shape, is_unsigned_act, decides, is_logic, needs_second, infix_value, is_ready};
-ghost use Rattle.c_types.specs.Constant.{integer};
+ghost use Rattle.c_tree.specs.Constant.{is_shift, gives_truth, binary_shape, integer_shape, is_unsigned_act, decides, is_logic, needs_second, binary_value, is_ready};
+ghost use Rattle.c_types.specs.ConstantAnswers.{integer};
 
-use crate::words::infix_word;
+use crate::words::binary_word;
 use c_tree::{Binary, CType};
 
 /// The type of a constant.
@@ -19,7 +19,7 @@ pub enum Integer {
 
 impl Integer {
     pub(crate) fn of(ty: &CType) -> Integer
-        ensures { integer result ≡ integer_shape (shape ty.now) }
+        ensures { integer result ≡ integer_shape (ty_of ty.now) }
     {
         match ty {
             CType::Unsigned => Integer::Unsigned,
@@ -33,7 +33,7 @@ impl Integer {
 
     /// The type by itself.
     pub fn own(self) -> CType
-        ensures { shape result ≡ integer self }
+        ensures { ty_of result ≡ integer self }
     {
         match self {
             Integer::Int => CType::Int,
@@ -92,8 +92,8 @@ fn gives_truth(op: Binary) -> bool
     }
 }
 
-pub(crate) fn infix_type(op: Binary, left: Integer, right: Integer) -> Integer
-    ensures { integer result ≡ infix_shape op (integer left) (integer right) }
+pub(crate) fn binary_type(op: Binary, left: Integer, right: Integer) -> Integer
+    ensures { integer result ≡ binary_shape op (integer left) (integer right) }
 {
     if gives_truth(op) {
         Integer::Int
@@ -136,8 +136,13 @@ pub(crate) fn needs_second(op: Binary, x: Option<u32>) -> bool
     }
 }
 
-pub(crate) fn infix_value(op: Binary, unsigned: bool, x: Option<u32>, y: Option<u32>) -> Option<u32>
-    ensures { result ≡ infix_value op unsigned x y }
+pub(crate) fn binary_value(
+    op: Binary,
+    unsigned: bool,
+    x: Option<u32>,
+    y: Option<u32>,
+) -> Option<u32>
+    ensures { result ≡ binary_value op unsigned x y }
 {
     let x = x?;
     if decides(op, x) {
@@ -145,7 +150,7 @@ pub(crate) fn infix_value(op: Binary, unsigned: bool, x: Option<u32>, y: Option<
     }
     match y {
         None => None,
-        Some(y) => infix_word(op, unsigned, x, y),
+        Some(y) => binary_word(op, unsigned, x, y),
     }
 }
 

@@ -1,7 +1,7 @@
 //! The least breach.
 
 ghost use Rattle.std.specs.Prelude.{◌≡◌};
-ghost use Rattle.c_tree.specs.Breach.{check_number, type_number, number, is_before, nearer, lesser, least_of, nothing_found, unless};
+ghost use Rattle.c_tree.specs.Breach.{check_number, type_number, number, is_before, nearer, lesser, nothing_found, unless, Adds};
 
 use c_tree::{Breach, Broken, Least, Place, Ranking};
 
@@ -86,7 +86,7 @@ fn keep(least: &mut Least, breach: Breach)
 
 /// Keeps a breach, unless all is right.
 pub fn note(least: &mut Least, right: bool, kind: Broken, place: Place)
-    ensures { least.new ≡ least_of least.old (unless right kind place) }
+    ensures { Adds least.old least.new (unless right kind place) }
 {
     if !right {
         keep(least, Breach { kind, place });

@@ -1,10 +1,10 @@
 //! The typing rules: the type of a node from the types of its parts, or nothing.
 
 ghost use Rattle.std.specs.Prelude.{◌≡◌, ◌&&◌, ◌||◌, is_some, true, Some};
-ghost use Rattle.c_tree.specs.Syntax.{IntShape};
-ghost use Rattle.c_tree.specs.View.{shape};
+ghost use Rattle.c_tree.specs.Ty as the_ty;
+ghost use Rattle.c_tree.specs.View.{ty_of};
 ghost use Rattle.c_tree.specs.Shapes.{is_integer, is_pointer, promoted};
-ghost use Rattle.c_tree.specs.Rules.{arithmetic_rule, shift_rule, sum_rule, difference_rule, order_rule, is_pointer_with, equality_rule, logic_rule, value_rule, branch_rule, takes, combines, fits, element_rule, store_rule, value_prefix_rule, prefix_rule, step_rule, cast_rule, is_at, where_right};
+ghost use Rattle.c_tree.specs.Rules.{arithmetic_rule, shift_rule, sum_rule, difference_rule, order_rule, is_pointer_with, equality_rule, logic_rule, value_rule, conditional_value_rule, takes, combines, fits, index_rule, assign_rule, unary_value_rule, unary_rule, step_rule, cast_rule, is_at, where_right};
 ghost use Rattle.c_tree.specs.Typing.{one, both, is_taken};
 ghost use Rattle.c_tree.specs.Breaches.{possible_one, possible_right, possible_left, possible_both, may_take};
 ghost use Rattle.c_types.specs.Seen.{seen, seen_some, is_flat, rule_of, part_rule, is_contents};
@@ -65,7 +65,7 @@ fn difference<'a>(a: Seen<'a>, b: Seen<'a>) -> Option<Seen<'a>>
 }
 
 fn int_where<'a>(right: bool) -> Option<Seen<'a>>
-    ensures { seen_some result ≡ where_right right (Some IntShape) }
+    ensures { seen_some result ≡ where_right right (Some the_ty.Int) }
 {
     if right {
         Some(Seen::Is(Base::Int))
@@ -90,7 +90,8 @@ fn is_pointer_with(a: Seen, nought: bool, b: Seen) -> bool
 
 /// `== !=` (6.5.9).
 fn equality<'a>(left_nought: bool, right_nought: bool, a: Seen, b: Seen) -> Option<Seen<'a>>
-    ensures { seen_some result ≡ equality_rule left_nought right_nought (seen a.entry) (seen b.entry) }
+    ensures { seen_some result
+        ≡ equality_rule left_nought right_nought (seen a.entry) (seen b.entry) }
 {
     int_where(
         a.is_integer() && b.is_integer()
@@ -107,14 +108,15 @@ fn logic<'a>(a: Seen, b: Seen) -> Option<Seen<'a>>
 }
 
 /// An operator between two values, arrays already pointers.
-fn value_infix<'a>(
+fn binary_result<'a>(
     op: Binary,
     left_nought: bool,
     right_nought: bool,
     a: Seen<'a>,
     b: Seen<'a>,
 ) -> Option<Seen<'a>>
-    ensures { seen_some result ≡ value_rule op left_nought right_nought (seen a.entry) (seen b.entry) }
+    ensures { seen_some result
+        ≡ value_rule op left_nought right_nought (seen a.entry) (seen b.entry) }
 {
     match op {
         Binary::Or => logic(a, b),
@@ -139,8 +141,14 @@ fn value_infix<'a>(
 }
 
 /// The last two operands of `?:`, arrays already pointers (6.5.15).
-fn branch<'a>(left_nought: bool, right_nought: bool, a: Seen<'a>, b: Seen<'a>) -> Option<Seen<'a>>
-    ensures { seen_some result ≡ branch_rule left_nought right_nought (seen a.entry) (seen b.entry) }
+fn conditional_result<'a>(
+    left_nought: bool,
+    right_nought: bool,
+    a: Seen<'a>,
+    b: Seen<'a>,
+) -> Option<Seen<'a>>
+    ensures { seen_some result
+        ≡ conditional_value_rule left_nought right_nought (seen a.entry) (seen b.entry) }
 {
     if a.is_integer() && b.is_integer() {
         Some(a.common(b))
@@ -154,12 +162,12 @@ fn branch<'a>(left_nought: bool, right_nought: bool, a: Seen<'a>, b: Seen<'a>) -
 }
 
 /// `a[i]` is `*(a + i)` (6.5.2.1).
-pub fn element<'a>(a: Seen<'a>, b: Seen<'a>) -> Option<Seen<'a>>
-    ensures ty { seen_some result ≡ element_rule (seen a.entry) (seen b.entry) }
+pub fn index_result<'a>(a: Seen<'a>, b: Seen<'a>) -> Option<Seen<'a>>
+    ensures ty { seen_some result ≡ index_rule (seen a.entry) (seen b.entry) }
     ensures flat { is_flat result ≡ true }
 {
     match sum(a.decay(), b.decay()) {
-        Some(sum) => sum.pointed(),
+        Some(sum) => sum.pointee(),
         None => None,
     }
 }
@@ -189,8 +197,8 @@ fn fits(how: Option<Binary>, to: Seen, nought: bool, a: Seen) -> bool
 }
 
 /// What an assignment to a place gives.
-fn store<'a>(how: Option<Binary>, nought: bool, to: Seen<'a>, a: Seen) -> Option<Seen<'a>>
-    ensures { seen_some result ≡ store_rule how nought (seen to.entry) (seen a.entry) }
+fn assign_result<'a>(how: Option<Binary>, nought: bool, to: Seen<'a>, a: Seen) -> Option<Seen<'a>>
+    ensures { seen_some result ≡ assign_rule how nought (seen to.entry) (seen a.entry) }
 {
     if fits(how, to, nought, a.decay()) {
         Some(to)
@@ -203,12 +211,12 @@ fn store<'a>(how: Option<Binary>, nought: bool, to: Seen<'a>, a: Seen) -> Option
 #[derive(Clone, Copy, Debug)]
 pub enum Rule {
     /// An operator, and which of its operands are the literal 0.
-    Infix(Binary, bool, bool),
+    Binary(Binary, bool, bool),
     /// The last two operands of `?:`, and which of them are the literal 0.
-    Choice(bool, bool),
-    Element,
+    Conditional(bool, bool),
+    Index,
     /// An assignment, and whether its right side is the literal 0.
-    Store(Option<Binary>, bool),
+    Assign(Option<Binary>, bool),
 }
 
 impl Rule {
@@ -217,10 +225,10 @@ impl Rule {
         ensures { seen_some result ≡ rule_of self (seen a.entry) (seen b.entry) }
     {
         match self {
-            Rule::Infix(op, n, m) => value_infix(op, n, m, a.decay(), b.decay()),
-            Rule::Choice(n, m) => branch(n, m, a.decay(), b.decay()),
-            Rule::Element => element(a, b),
-            Rule::Store(how, n) => store(how, n, a, b),
+            Rule::Binary(op, n, m) => binary_result(op, n, m, a.decay(), b.decay()),
+            Rule::Conditional(n, m) => conditional_result(n, m, a.decay(), b.decay()),
+            Rule::Index => index_result(a, b),
+            Rule::Assign(how, n) => assign_result(how, n, a, b),
         }
     }
 
@@ -276,19 +284,19 @@ impl Rule {
 pub(crate) fn is_taken(to: Seen, nought: bool, value: Option<Seen>) -> bool
     ensures { result ≡ is_taken (seen to.entry) nought (seen_some value.entry) }
 {
-    Rule::Store(None, nought).both(Some(to), value).is_some()
+    Rule::Assign(None, nought).both(Some(to), value).is_some()
 }
 
 /// Whether some type for a value that has none, or its own, is taken by an object of a type.
 pub fn may_take(to: Seen, nought: bool, value: Option<Seen>) -> bool
     ensures { result ≡ may_take (seen to.entry) nought (seen_some value.entry) }
 {
-    Rule::Store(None, nought).possible(Some(to), value)
+    Rule::Assign(None, nought).possible(Some(to), value)
 }
 
 /// `+ - ~ ! *` before a value, an array already a pointer (6.5.3.2, 6.5.3.3).
-fn value_prefix<'a>(op: Unary, a: Seen<'a>) -> Option<Seen<'a>>
-    ensures ty { seen_some result ≡ value_prefix_rule op (seen a.entry) }
+fn unary_value_result<'a>(op: Unary, a: Seen<'a>) -> Option<Seen<'a>>
+    ensures ty { seen_some result ≡ unary_value_rule op (seen a.entry) }
     ensures flat { is_at op ≡ true → is_flat result ≡ true }
 {
     match op {
@@ -296,13 +304,14 @@ fn value_prefix<'a>(op: Unary, a: Seen<'a>) -> Option<Seen<'a>>
         Unary::Minus => sign(a),
         Unary::Not => int_where(a.is_scalar()),
         Unary::Flip => sign(a),
-        Unary::At => a.pointed(),
+        Unary::At => a.pointee(),
         Unary::Address => None,
     }
 }
 
 fn sign<'a>(a: Seen<'a>) -> Option<Seen<'a>>
-    ensures { seen_some result ≡ where_right (is_integer (seen a.entry)) (Some (promoted (seen a.entry))) }
+    ensures { seen_some result
+        ≡ where_right (is_integer (seen a.entry)) (Some (promoted (seen a.entry))) }
 {
     if a.is_integer() {
         Some(a.promote())
@@ -312,23 +321,23 @@ fn sign<'a>(a: Seen<'a>) -> Option<Seen<'a>>
 }
 
 /// An operator before its operand.
-fn prefix<'a>(op: Unary, a: Seen<'a>) -> Option<Seen<'a>>
-    ensures ty { seen_some result ≡ prefix_rule op (seen a.entry) }
+fn unary_result<'a>(op: Unary, a: Seen<'a>) -> Option<Seen<'a>>
+    ensures ty { seen_some result ≡ unary_rule op (seen a.entry) }
     ensures flat { is_at op ≡ true → is_flat result ≡ true }
 {
-    value_prefix(op, a.decay())
+    unary_value_result(op, a.decay())
 }
 
 /// `++ --` of a place (6.5.2.4, 6.5.3.1).
-fn step<'a>(a: Seen<'a>) -> Option<Seen<'a>>
+fn step_result<'a>(a: Seen<'a>) -> Option<Seen<'a>>
     ensures { seen_some result ≡ step_rule (seen a.entry) }
 {
     if a.is_scalar() { Some(a) } else { None }
 }
 
 /// A cast from an integer to an integer type (6.5.4).
-fn cast<'a>(to: &'a CType, a: Seen) -> Option<Seen<'a>>
-    ensures { seen_some result ≡ cast_rule (shape to.now) (seen a.entry) }
+fn cast_result<'a>(to: &'a CType, a: Seen) -> Option<Seen<'a>>
+    ensures { seen_some result ≡ cast_rule (ty_of to.now) (seen a.entry) }
 {
     if Seen::of(to).is_integer() && a.decay().is_integer() {
         Some(Seen::of(to))
@@ -341,7 +350,7 @@ fn cast<'a>(to: &'a CType, a: Seen) -> Option<Seen<'a>>
 #[derive(Clone, Copy, Debug)]
 pub enum PartRule<'a> {
     /// An operator before its operand, other than `&`.
-    Prefix(Unary),
+    Unary(Unary),
     Step,
     Cast(&'a CType),
 }
@@ -353,9 +362,9 @@ impl<'a> PartRule<'a> {
         ensures flat { is_contents self.entry ≡ true → is_flat result ≡ true }
     {
         match self {
-            PartRule::Prefix(op) => prefix(op, a),
-            PartRule::Step => step(a),
-            PartRule::Cast(to) => cast(to, a),
+            PartRule::Unary(op) => unary_result(op, a),
+            PartRule::Step => step_result(a),
+            PartRule::Cast(to) => cast_result(to, a),
         }
     }
 

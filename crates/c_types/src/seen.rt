@@ -1,8 +1,8 @@
 //! Types as a walk passes them on, in no memory of their own.
 
 ghost use Rattle.std.specs.Prelude.{◌≡◌, true, Some, IfOk};
-ghost use Rattle.c_tree.specs.Syntax.{PointerTo, IntShape, UnsignedShape};
-ghost use Rattle.c_tree.specs.View.{shape};
+ghost use Rattle.c_tree.specs.Ty as the_ty;
+ghost use Rattle.c_tree.specs.View.{ty_of};
 ghost use Rattle.c_tree.specs.Shapes.{same, is_integer, is_unsigned, is_void, is_pointer, is_scalar, decayed, promoted, common};
 ghost use Rattle.c_tree.specs.Rules.{pointed};
 ghost use Rattle.c_types.specs.Seen.{base, seen, seen_some, is_flat};
@@ -27,7 +27,7 @@ pub enum Seen<'a> {
 
 /// Whether two types are the same.
 pub fn same_type(a: &CType, b: &CType) -> bool
-    ensures { result ≡ same (shape a.now) (shape b.now) }
+    ensures { result ≡ same (ty_of a.now) (ty_of b.now) }
 {
     match (a, b) {
         (CType::Int, CType::Int) => true,
@@ -42,13 +42,13 @@ pub fn same_type(a: &CType, b: &CType) -> bool
 
 /// Whether a type is void.
 pub fn is_void(ty: &CType) -> bool
-    ensures { result ≡ is_void (shape ty.now) }
+    ensures { result ≡ is_void (ty_of ty.now) }
 {
     matches!(ty, CType::Void)
 }
 
 fn is_pointer_to(a: &CType, b: Base) -> bool
-    ensures { result ≡ same (shape a.now) (PointerTo (base b.entry)) }
+    ensures { result ≡ same (ty_of a.now) (the_ty.Pointer (base b.entry)) }
 {
     match a {
         CType::Pointer(x) => b.is_type(x),
@@ -58,7 +58,7 @@ fn is_pointer_to(a: &CType, b: Base) -> bool
 
 impl<'a> Base<'a> {
     fn is_type(self, ty: &CType) -> bool
-        ensures { result ≡ same (shape ty.now) (base self.entry) }
+        ensures { result ≡ same (ty_of ty.now) (base self.entry) }
     {
         match self {
             Base::Int => matches!(ty, CType::Int),
@@ -68,13 +68,13 @@ impl<'a> Base<'a> {
     }
 
     fn is_int(self) -> bool
-        ensures { result ≡ same IntShape (base self.entry) }
+        ensures { result ≡ same the_ty.Int (base self.entry) }
     {
         matches!(self, Base::Int | Base::At(CType::Int))
     }
 
     fn is_unsigned(self) -> bool
-        ensures { result ≡ same UnsignedShape (base self.entry) }
+        ensures { result ≡ same the_ty.Unsigned (base self.entry) }
     {
         matches!(self, Base::Unsigned | Base::At(CType::Unsigned))
     }
@@ -90,7 +90,7 @@ impl<'a> Base<'a> {
     }
 
     fn own(self, alloc: Global) -> Result<CType, OutOfMemory>
-        ensures { IfOk result (λ t. shape t ≡ base self.entry) }
+        ensures { IfOk result (λ t. ty_of t ≡ base self.entry) }
     {
         match self {
             Base::Int => Ok(CType::Int),
@@ -103,7 +103,7 @@ impl<'a> Base<'a> {
 impl<'a> Seen<'a> {
     /// A type that stands somewhere.
     pub fn of(ty: &'a CType) -> Seen<'a>
-        ensures ty { seen result ≡ shape ty.now }
+        ensures ty { seen result ≡ ty_of ty.now }
         ensures flat { is_flat (Some result) ≡ true }
     {
         Seen::Is(Base::At(ty))
@@ -181,7 +181,7 @@ impl<'a> Seen<'a> {
     }
 
     /// What a pointer points to.
-    pub fn pointed(self) -> Option<Seen<'a>>
+    pub fn pointee(self) -> Option<Seen<'a>>
         ensures ty { seen_some result ≡ pointed (seen self.entry) }
         ensures flat { is_flat result ≡ true }
     {
@@ -205,7 +205,7 @@ impl<'a> Seen<'a> {
 
     /// The type in memory of its own.
     pub(crate) fn own(self, alloc: Global) -> Result<CType, OutOfMemory>
-        ensures { IfOk result (λ t. shape t ≡ seen self.entry) }
+        ensures { IfOk result (λ t. ty_of t ≡ seen self.entry) }
     {
         match self {
             Seen::Is(ty) => ty.own(alloc),

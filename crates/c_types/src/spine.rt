@@ -5,7 +5,7 @@ ghost use Rattle.std.specs.Option.{option_copied};
 ghost use Rattle.c_tree.specs.declared.tree.Expr.{size-Expr};
 ghost use Rattle.c_tree.specs.Shapes.{is_integer};
 ghost use Rattle.c_tree.specs.Constant.{is_arithmetic};
-ghost use Rattle.c_tree.specs.View.{expression, shape};
+ghost use Rattle.c_tree.specs.View.{expr_of, ty_of};
 ghost use Rattle.c_types.specs.Spine.{first_operand, constant_operand, operand, down};
 
 use c_tree::{CType, Expr, ExprKind, Unary};
@@ -20,10 +20,12 @@ pub enum Along {
     Constants,
 }
 
-#[tactic(auto, using(c_tree::proofs::Views::views))]
+#[tactic(auto, using(c_tree::proofs::ViewLemmas::views))]
 fn first_operand(e: &Expr) -> Option<&Expr>
-    ensures value { MatchOption (option_copied result) (first_operand (expression e.now) ≡ None) (λ a. first_operand (expression e.now) ≡ Some (expression a)) }
-    ensures smaller { MatchOption (option_copied result) (Unit {0}) (λ a. size-Expr a < size-Expr e.now) }
+    ensures value { MatchOption (option_copied result) (first_operand (expr_of e.now) ≡ None)
+        (λ a. first_operand (expr_of e.now) ≡ Some (expr_of a)) }
+    ensures smaller { MatchOption (option_copied result) (Unit {0})
+        (λ a. size-Expr a < size-Expr e.now) }
 {
     match &e.kind {
         ExprKind::Name(_) => None,
@@ -52,15 +54,17 @@ pub(crate) fn is_arithmetic(op: Unary) -> bool
 }
 
 pub(crate) fn is_integer(ty: &CType) -> bool
-    ensures { result ≡ is_integer (shape ty.now) }
+    ensures { result ≡ is_integer (ty_of ty.now) }
 {
     matches!(ty, CType::Int | CType::Unsigned | CType::Char)
 }
 
-#[tactic(auto, using(c_tree::proofs::Views::views))]
+#[tactic(auto, using(c_tree::proofs::ViewLemmas::views))]
 fn constant_operand(e: &Expr) -> Option<&Expr>
-    ensures value { MatchOption (option_copied result) (constant_operand (expression e.now) ≡ None) (λ a. constant_operand (expression e.now) ≡ Some (expression a)) }
-    ensures smaller { MatchOption (option_copied result) (Unit {0}) (λ a. size-Expr a < size-Expr e.now) }
+    ensures value { MatchOption (option_copied result) (constant_operand (expr_of e.now) ≡ None)
+        (λ a. constant_operand (expr_of e.now) ≡ Some (expr_of a)) }
+    ensures smaller { MatchOption (option_copied result) (Unit {0})
+        (λ a. size-Expr a < size-Expr e.now) }
 {
     match &e.kind {
         ExprKind::Unary(op, a) => { if is_arithmetic(*op) { Some(a) } else { None } }
@@ -80,8 +84,10 @@ fn constant_operand(e: &Expr) -> Option<&Expr>
 
 /// The first operand, where it is followed.
 pub fn operand(along: Along, e: &Expr) -> Option<&Expr>
-    ensures value { MatchOption (option_copied result) (operand along (expression e.now) ≡ None) (λ a. operand along (expression e.now) ≡ Some (expression a)) }
-    ensures smaller { MatchOption (option_copied result) (Unit {0}) (λ a. size-Expr a < size-Expr e.now) }
+    ensures value { MatchOption (option_copied result) (operand along (expr_of e.now) ≡ None)
+        (λ a. operand along (expr_of e.now) ≡ Some (expr_of a)) }
+    ensures smaller { MatchOption (option_copied result) (Unit {0})
+        (λ a. size-Expr a < size-Expr e.now) }
 {
     match along {
         Along::Operands => first_operand(e),
@@ -92,7 +98,7 @@ pub fn operand(along: Along, e: &Expr) -> Option<&Expr>
 /// The operand so many steps further down, or the last one.
 #[tactic(auto, using(crate::proofs::Descent::steps))]
 pub fn descend<'a>(along: Along, e: &'a Expr, count: u32) -> &'a Expr
-    ensures reaches { expression result.now ≡ down along count (expression e.now) }
+    ensures reaches { expr_of result.now ≡ down along count (expr_of e.now) }
     ensures small { size-Expr result.now ≤ size-Expr e.now }
 {
     let mut end = e;
@@ -114,8 +120,8 @@ pub struct Lowest<'a> {
 /// The last operand, or the one at the limit.
 #[tactic(auto, using(crate::proofs::Descent::steps))]
 pub fn follow<'a>(along: Along, e: &'a Expr) -> Lowest<'a>
-    ensures reaches { expression result.end.now ≡ down along result.count (expression e.now) }
-    ensures ends { result.count < LIMIT → operand along (expression result.end.now) ≡ None }
+    ensures reaches { expr_of result.end.now ≡ down along result.count (expr_of e.now) }
+    ensures ends { result.count < LIMIT → operand along (expr_of result.end.now) ≡ None }
     ensures small { size-Expr result.end.now ≤ size-Expr e.now }
     ensures smaller { 0 < result.count → size-Expr result.end.now < size-Expr e.now }
 {

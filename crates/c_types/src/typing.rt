@@ -3,29 +3,29 @@
 ghost use Rattle.std.specs.Prelude.{◌≡◌, ◌&&◌, true, option_map, Some, None};
 ghost use Rattle.std.specs.Option.{option_copied};
 ghost use Rattle.c_tree.specs.declared.breach.Least.{Least};
-ghost use Rattle.c_tree.specs.View.{expression, expressions};
-ghost use Rattle.c_tree.specs.Breach.{least_of, unless};
-ghost use Rattle.c_tree.specs.Rules.{is_place, is_nought, is_at, address_type, where_right, step_rule, element_rule};
-ghost use Rattle.c_tree.specs.Typing.{type_at, all_taken, object, one, both, prefix_type, is_test};
-ghost use Rattle.c_tree.specs.Breaches.{breaches, breaches_in, name_breaches, prefix_breaches, place_breaches, possible_one, possible_both, possible_test, same_count, all_possible};
+ghost use Rattle.c_tree.specs.View.{expr_of, exprs_of};
+ghost use Rattle.c_tree.specs.Breach.{least_of, unless, Adds};
+ghost use Rattle.c_tree.specs.Rules.{is_place, is_nought, is_at, address_type, where_right, step_rule, index_rule};
+ghost use Rattle.c_tree.specs.Typing.{type_at, all_taken, object, one, both, unary_type, is_test};
+ghost use Rattle.c_tree.specs.Breaches.{breaches, breaches_in, name_breaches, unary_breaches, place_breaches, possible_one, possible_both, possible_test, same_count, all_possible};
 ghost use Rattle.c_types.specs.Env.{scope_of, known};
 ghost use Rattle.c_types.specs.Seen.{seen_some, is_flat, part_rule, rule_of, is_contents};
 ghost use Rattle.c_types.specs.Call.{parameters};
 ghost use Rattle.c_types.specs.Spine.{first_operand, below, down};
 
 use crate::block::Known;
-use crate::call::{Parameters, Passed, Target, call};
+use crate::call::{Parameters, Passed, Target, type_call};
 use crate::env::Env;
 use crate::least::note;
-use crate::rules::{PartRule, Rule, element};
+use crate::rules::{PartRule, Rule, index_result};
 use crate::seen::{Base, Seen};
 use crate::spine::{Along, LIMIT, descend, follow, is_integer, operand};
 use c_tree::{Broken, CType, Expr, ExprKind, Least, Place, Unary};
 
 /// Whether an expression is a place.
-#[tactic(auto, using(c_tree::proofs::Views::views))]
+#[tactic(auto, using(c_tree::proofs::ViewLemmas::views))]
 pub fn is_place(e: &Expr) -> bool
-    ensures { result ≡ is_place (expression e.now) }
+    ensures { result ≡ is_place (expr_of e.now) }
 {
     match &e.kind {
         ExprKind::Name(_) => true,
@@ -44,9 +44,9 @@ pub fn is_place(e: &Expr) -> bool
 }
 
 /// Whether an expression is the literal 0.
-#[tactic(auto, using(c_tree::proofs::Views::views))]
+#[tactic(auto, using(c_tree::proofs::ViewLemmas::views))]
 pub fn is_nought(e: &Expr) -> bool
-    ensures { result ≡ is_nought (expression e.now) }
+    ensures { result ≡ is_nought (expr_of e.now) }
 {
     match &e.kind {
         ExprKind::Number(ty, n) => is_integer(ty) && *n == 0,
@@ -64,10 +64,11 @@ pub fn is_nought(e: &Expr) -> bool
     }
 }
 
-fn name<'a>(found: Option<&'a Known>, place: Place, least: &mut Least) -> Option<Seen<'a>>
+fn type_name<'a>(found: Option<&'a Known>, place: Place, least: &mut Least) -> Option<Seen<'a>>
     ensures ty { seen_some result ≡ object (option_map known (option_copied found.entry)) }
     ensures flat { is_flat result ≡ true }
-    ensures least { least.new ≡ least_of least.old (name_breaches (option_map known (option_copied found.entry)) place) }
+    ensures least { Adds least.old least.new
+        (name_breaches (option_map known (option_copied found.entry)) place) }
 {
     match found {
         None => {
@@ -105,13 +106,14 @@ fn part<'a>(
 ) -> Option<Seen<'a>>
     ensures ty { seen_some result ≡ one (part_rule rule.entry) (seen_some ty.entry) }
     ensures flat { is_contents rule.entry ≡ true → is_flat result ≡ true }
-    ensures least { least.new ≡ least_of least.old (unless (possible_one (part_rule rule.entry) (seen_some ty.entry)) Broken.Mismatch at) }
+    ensures least { Adds least.old least.new
+        (unless (possible_one (part_rule rule.entry) (seen_some ty.entry)) Broken.Mismatch at) }
 {
     note(least, rule.possible(ty), Broken::Mismatch, at);
     rule.one(ty)
 }
 
-fn prefix<'a>(
+fn type_unary<'a>(
     op: Unary,
     of_place: bool,
     ty: Option<Seen<'a>>,
@@ -119,26 +121,26 @@ fn prefix<'a>(
     least: &mut Least,
 ) -> Option<Seen<'a>>
     requires { of_place ≡ true → is_flat ty ≡ true }
-    ensures ty { seen_some result ≡ prefix_type op of_place (seen_some ty.entry) }
+    ensures ty { seen_some result ≡ unary_type op of_place (seen_some ty.entry) }
     ensures flat { is_at op ≡ true → is_flat result ≡ true }
-    ensures least { least.new ≡ least_of least.old (prefix_breaches op of_place (seen_some ty.entry) at) }
+    ensures least { Adds least.old least.new (unary_breaches op of_place (seen_some ty.entry) at) }
 {
     match op {
         Unary::Address => {
             note(least, of_place, Broken::NotAPlace, at);
             address_of(of_place, ty)
         }
-        Unary::Plus => part(PartRule::Prefix(Unary::Plus), ty, at, least),
-        Unary::Minus => part(PartRule::Prefix(Unary::Minus), ty, at, least),
-        Unary::Not => part(PartRule::Prefix(Unary::Not), ty, at, least),
-        Unary::Flip => part(PartRule::Prefix(Unary::Flip), ty, at, least),
-        Unary::At => part(PartRule::Prefix(Unary::At), ty, at, least),
+        Unary::Plus => part(PartRule::Unary(Unary::Plus), ty, at, least),
+        Unary::Minus => part(PartRule::Unary(Unary::Minus), ty, at, least),
+        Unary::Not => part(PartRule::Unary(Unary::Not), ty, at, least),
+        Unary::Flip => part(PartRule::Unary(Unary::Flip), ty, at, least),
+        Unary::At => part(PartRule::Unary(Unary::At), ty, at, least),
     }
 }
 
 /// Notes what a node breaks that needs a place.
 fn note_place(place: bool, possible: bool, at: Place, least: &mut Least)
-    ensures { least.new ≡ least_of least.old (place_breaches place possible at) }
+    ensures { Adds least.old least.new (place_breaches place possible at) }
 {
     if place {
         note(least, possible, Broken::Mismatch, at);
@@ -154,9 +156,15 @@ pub fn where_right<'a>(right: bool, ty: Option<Seen<'a>>) -> Option<Seen<'a>>
     if right { ty } else { None }
 }
 
-fn step<'a>(place: bool, ty: Option<Seen<'a>>, at: Place, least: &mut Least) -> Option<Seen<'a>>
+fn type_step<'a>(
+    place: bool,
+    ty: Option<Seen<'a>>,
+    at: Place,
+    least: &mut Least,
+) -> Option<Seen<'a>>
     ensures ty { seen_some result ≡ where_right place (one step_rule (seen_some ty.entry)) }
-    ensures least { least.new ≡ least_of least.old (place_breaches place (possible_one step_rule (seen_some ty.entry)) at) }
+    ensures least { Adds least.old least.new
+        (place_breaches place (possible_one step_rule (seen_some ty.entry)) at) }
 {
     note_place(place, PartRule::Step.possible(ty), at, least);
     where_right(place, PartRule::Step.one(ty))
@@ -170,31 +178,36 @@ fn parts<'a>(
     at: Place,
     least: &mut Least,
 ) -> Option<Seen<'a>>
-    ensures ty { seen_some result ≡ both (rule_of rule) (seen_some left.entry) (seen_some right.entry) }
-    ensures least { least.new ≡ least_of least.old (unless (possible_both (rule_of rule) (seen_some left.entry) (seen_some right.entry)) Broken.Mismatch at) }
+    ensures ty { seen_some result
+        ≡ both (rule_of rule) (seen_some left.entry) (seen_some right.entry) }
+    ensures least { Adds least.old least.new
+        (unless (possible_both (rule_of rule) (seen_some left.entry) (seen_some right.entry))
+        Broken.Mismatch at) }
 {
     note(least, rule.possible(left, right), Broken::Mismatch, at);
     rule.both(left, right)
 }
 
-fn index<'a>(
+fn type_index<'a>(
     left: Option<Seen<'a>>,
     right: Option<Seen<'a>>,
     at: Place,
     least: &mut Least,
 ) -> Option<Seen<'a>>
-    ensures ty { seen_some result ≡ both element_rule (seen_some left.entry) (seen_some right.entry) }
+    ensures ty { seen_some result ≡ both index_rule (seen_some left.entry) (seen_some right.entry) }
     ensures flat { is_flat result ≡ true }
-    ensures least { least.new ≡ least_of least.old (unless (possible_both element_rule (seen_some left.entry) (seen_some right.entry)) Broken.Mismatch at) }
+    ensures least { Adds least.old least.new
+        (unless (possible_both index_rule (seen_some left.entry) (seen_some right.entry))
+        Broken.Mismatch at) }
 {
     note(
         least,
-        Rule::Element.possible(left, right),
+        Rule::Index.possible(left, right),
         Broken::Mismatch,
         at,
     );
     match (left, right) {
-        (Some(left), Some(right)) => element(left, right),
+        (Some(left), Some(right)) => index_result(left, right),
         _ => None,
     }
 }
@@ -219,7 +232,7 @@ pub fn is_test(test: Option<Seen>) -> bool
     }
 }
 
-fn choose<'a>(
+fn type_conditional<'a>(
     rule: Rule,
     test: Option<Seen>,
     left: Option<Seen<'a>>,
@@ -227,15 +240,20 @@ fn choose<'a>(
     at: Place,
     least: &mut Least,
 ) -> Option<Seen<'a>>
-    ensures ty { seen_some result ≡ where_right (is_test (seen_some test.entry)) (both (rule_of rule) (seen_some left.entry) (seen_some right.entry)) }
-    ensures least { least.new ≡ least_of least.old (unless (possible_test (seen_some test.entry) && possible_both (rule_of rule) (seen_some left.entry) (seen_some right.entry)) Broken.Mismatch at) }
+    ensures ty { seen_some result
+        ≡ where_right (is_test (seen_some test.entry))
+        (both (rule_of rule) (seen_some left.entry) (seen_some right.entry)) }
+    ensures least { Adds least.old least.new
+        (unless (possible_test (seen_some test.entry)
+        && possible_both (rule_of rule) (seen_some left.entry) (seen_some right.entry))
+        Broken.Mismatch at) }
 {
     let possible = may_test(test) && rule.possible(left, right);
     note(least, possible, Broken::Mismatch, at);
     where_right(is_test(test), rule.both(left, right))
 }
 
-fn assign<'a>(
+fn type_assign<'a>(
     place: bool,
     rule: Rule,
     left: Option<Seen<'a>>,
@@ -243,8 +261,11 @@ fn assign<'a>(
     at: Place,
     least: &mut Least,
 ) -> Option<Seen<'a>>
-    ensures ty { seen_some result ≡ where_right place (both (rule_of rule) (seen_some left.entry) (seen_some right.entry)) }
-    ensures least { least.new ≡ least_of least.old (place_breaches place (possible_both (rule_of rule) (seen_some left.entry) (seen_some right.entry)) at) }
+    ensures ty { seen_some result
+        ≡ where_right place (both (rule_of rule) (seen_some left.entry) (seen_some right.entry)) }
+    ensures least { Adds least.old least.new
+        (place_breaches place (possible_both (rule_of rule) (seen_some left.entry)
+        (seen_some right.entry)) at) }
 {
     note_place(place, rule.possible(left, right), at, least);
     where_right(place, rule.both(left, right))
@@ -252,11 +273,18 @@ fn assign<'a>(
 
 /// The breaches of a call's arguments, and whether the parameters take them.
 #[cycle(types)]
-fn arguments<'a>(args: &'a [Expr], taken: Parameters<'a>, env: &'a Env, least: &mut Least) -> Passed
-    ensures counts { result.counts ≡ same_count (parameters taken.entry) (expressions args.now) }
-    ensures fits { result.fits ≡ all_possible (scope_of env.now) (parameters taken.entry) (expressions args.now) }
-    ensures typed { result.typed ≡ all_taken (scope_of env.now) (parameters taken.entry) (expressions args.now) }
-    ensures least { least.new ≡ least_of least.old (breaches_in (scope_of env.now) (expressions args.now)) }
+fn type_arguments<'a>(
+    args: &'a [Expr],
+    taken: Parameters<'a>,
+    env: &'a Env,
+    least: &mut Least,
+) -> Passed
+    ensures counts { result.counts ≡ same_count (parameters taken.entry) (exprs_of args.now) }
+    ensures fits { result.fits
+        ≡ all_possible (scope_of env.now) (parameters taken.entry) (exprs_of args.now) }
+    ensures typed { result.typed
+        ≡ all_taken (scope_of env.now) (parameters taken.entry) (exprs_of args.now) }
+    ensures least { Adds least.old least.new (breaches_in (scope_of env.now) (exprs_of args.now)) }
 {
     let mut passed = Passed {
         counts: true,
@@ -274,22 +302,22 @@ fn arguments<'a>(args: &'a [Expr], taken: Parameters<'a>, env: &'a Env, least: &
 
 /// The type of an expression without a first operand.
 #[cycle(types)]
-#[tactic(auto, using(c_tree::proofs::Views::views, c_tree::proofs::LeastBreach::append_rules))]
-fn leaf<'a>(e: &'a Expr, env: &'a Env, used: bool, least: &mut Least) -> Option<Seen<'a>>
-    requires { first_operand (expression e.now) ≡ None }
-    ensures ty { seen_some result ≡ type_at (scope_of env.now) (expression e.now) }
-    ensures flat { is_place (expression e.now) ≡ true → is_flat result ≡ true }
-    ensures least { least.new ≡ least_of least.old (breaches (scope_of env.now) used (expression e.now)) }
+#[tactic(auto, using(c_tree::proofs::ViewLemmas::views, c_tree::proofs::LeastBreach::append_rules))]
+fn type_leaf<'a>(e: &'a Expr, env: &'a Env, used: bool, least: &mut Least) -> Option<Seen<'a>>
+    requires { first_operand (expr_of e.now) ≡ None }
+    ensures ty { seen_some result ≡ type_at (scope_of env.now) (expr_of e.now) }
+    ensures flat { is_place (expr_of e.now) ≡ true → is_flat result ≡ true }
+    ensures least { Adds least.old least.new (breaches (scope_of env.now) used (expr_of e.now)) }
 {
     match &e.kind {
-        ExprKind::Name(x) => name(env.find(x), e.place, least),
+        ExprKind::Name(x) => type_name(env.find(x), e.place, least),
         ExprKind::Number(ty, _) => Some(Seen::of(ty)),
         ExprKind::Character(_) => Some(Seen::Is(Base::Int)),
         ExprKind::Eof => Some(Seen::Is(Base::Int)),
         ExprKind::Call(callee, args) => {
             let target = Target::of(callee, env);
-            let passed = arguments(args.as_slice(), target.parameters(), env, least);
-            call(target, used, passed, e.place, least)
+            let passed = type_arguments(args.as_slice(), target.parameters(), env, least);
+            type_call(target, used, passed, e.place, least)
         }
         _ => unreachable!(),
     }
@@ -297,18 +325,22 @@ fn leaf<'a>(e: &'a Expr, env: &'a Env, used: bool, least: &mut Least) -> Option<
 
 /// The type of an expression from that of its first operand, whose breaches were noted.
 #[cycle(types)]
-#[tactic(auto, using(c_tree::proofs::Views::views, c_tree::proofs::LeastBreach::append_rules))]
-fn above<'a>(
+#[tactic(auto, using(c_tree::proofs::ViewLemmas::views, c_tree::proofs::LeastBreach::append_rules))]
+fn type_above<'a>(
     e: &'a Expr,
     first: Option<Seen<'a>>,
     env: &'a Env,
     least: &mut Least,
 ) -> Option<Seen<'a>>
-    requires ty { seen_some first ≡ type_at (scope_of env.now) (below Along.Operands (expression e.now)) }
-    requires flat { is_place (below Along.Operands (expression e.now)) ≡ true → is_flat first ≡ true }
-    ensures ty { seen_some result ≡ type_at (scope_of env.now) (expression e.now) }
-    ensures flat { is_place (expression e.now) ≡ true → is_flat result ≡ true }
-    ensures least { (start : Least) → least.old ≡ least_of start (breaches (scope_of env.now) true (below Along.Operands (expression e.now))) → least.new ≡ least_of start (breaches (scope_of env.now) true (expression e.now)) }
+    requires ty { seen_some first
+        ≡ type_at (scope_of env.now) (below Along.Operands (expr_of e.now)) }
+    requires flat { is_place (below Along.Operands (expr_of e.now)) ≡ true → is_flat first ≡ true }
+    ensures ty { seen_some result ≡ type_at (scope_of env.now) (expr_of e.now) }
+    ensures flat { is_place (expr_of e.now) ≡ true → is_flat result ≡ true }
+    ensures least { (start : Least)
+        → least.old ≡ least_of start
+        (breaches (scope_of env.now) true (below Along.Operands (expr_of e.now)))
+        → least.new ≡ least_of start (breaches (scope_of env.now) true (expr_of e.now)) }
 {
     match &e.kind {
         ExprKind::Name(_) => first,
@@ -316,28 +348,28 @@ fn above<'a>(
         ExprKind::Character(_) => first,
         ExprKind::Eof => first,
         ExprKind::Call(_, _) => first,
-        ExprKind::Unary(op, a) => prefix(*op, is_place(a), first, e.place, least),
-        ExprKind::Step(_, a) => step(is_place(a), first, e.place, least),
+        ExprKind::Unary(op, a) => type_unary(*op, is_place(a), first, e.place, least),
+        ExprKind::Step(_, a) => type_step(is_place(a), first, e.place, least),
         ExprKind::Cast(to, _) => part(PartRule::Cast(to), first, e.place, least),
         ExprKind::Binary(op, a, b) => {
             let second = walk(b, env, true, least);
-            let rule = Rule::Infix(*op, is_nought(a), is_nought(b));
+            let rule = Rule::Binary(*op, is_nought(a), is_nought(b));
             parts(rule, first, second, e.place, least)
         }
         ExprKind::Conditional(_, a, b) => {
             let left = walk(a, env, true, least);
             let right = walk(b, env, true, least);
-            let rule = Rule::Choice(is_nought(a), is_nought(b));
-            choose(rule, first, left, right, e.place, least)
+            let rule = Rule::Conditional(is_nought(a), is_nought(b));
+            type_conditional(rule, first, left, right, e.place, least)
         }
         ExprKind::Assign(how, a, b) => {
             let second = walk(b, env, true, least);
-            let rule = Rule::Store(*how, is_nought(b));
-            assign(is_place(a), rule, first, second, e.place, least)
+            let rule = Rule::Assign(*how, is_nought(b));
+            type_assign(is_place(a), rule, first, second, e.place, least)
         }
         ExprKind::Index(_, b) => {
             let second = walk(b, env, true, least);
-            index(first, second, e.place, least)
+            type_index(first, second, e.place, least)
         }
     }
 }
@@ -351,18 +383,23 @@ fn rise<'a>(
     env: &'a Env,
     least: &mut Least,
 ) -> Option<Seen<'a>>
-    requires ty { seen_some end ≡ type_at (scope_of env.now) (down Along.Operands count (expression e.now)) }
-    requires flat { is_place (down Along.Operands count (expression e.now)) ≡ true → is_flat end ≡ true }
-    ensures ty { seen_some result ≡ type_at (scope_of env.now) (expression e.now) }
-    ensures flat { is_place (expression e.now) ≡ true → is_flat result ≡ true }
-    ensures least { (start : Least) → least.old ≡ least_of start (breaches (scope_of env.now) true (down Along.Operands count (expression e.now))) → least.new ≡ least_of start (breaches (scope_of env.now) true (expression e.now)) }
+    requires ty { seen_some end
+        ≡ type_at (scope_of env.now) (down Along.Operands count (expr_of e.now)) }
+    requires flat { is_place (down Along.Operands count (expr_of e.now)) ≡ true
+        → is_flat end ≡ true }
+    ensures ty { seen_some result ≡ type_at (scope_of env.now) (expr_of e.now) }
+    ensures flat { is_place (expr_of e.now) ≡ true → is_flat result ≡ true }
+    ensures least { (start : Least)
+        → least.old ≡ least_of start
+        (breaches (scope_of env.now) true (down Along.Operands count (expr_of e.now)))
+        → least.new ≡ least_of start (breaches (scope_of env.now) true (expr_of e.now)) }
 {
     let mut ty = end;
     let mut left = count;
     while 0 < left {
         left -= 1;
         let node = descend(Along::Operands, e, left);
-        ty = above(node, ty, env, least);
+        ty = type_above(node, ty, env, least);
     }
     ty
 }
@@ -370,16 +407,16 @@ fn rise<'a>(
 /// The type of an expression, where it has one. Its breaches go into `least`. Of a call it says whether the value is used.
 #[cycle(types)]
 pub fn walk<'a>(e: &'a Expr, env: &'a Env, used: bool, least: &mut Least) -> Option<Seen<'a>>
-    ensures ty { seen_some result ≡ type_at (scope_of env.now) (expression e.now) }
-    ensures flat { is_place (expression e.now) ≡ true → is_flat result ≡ true }
-    ensures least { least.new ≡ least_of least.old (breaches (scope_of env.now) used (expression e.now)) }
+    ensures ty { seen_some result ≡ type_at (scope_of env.now) (expr_of e.now) }
+    ensures flat { is_place (expr_of e.now) ≡ true → is_flat result ≡ true }
+    ensures least { Adds least.old least.new (breaches (scope_of env.now) used (expr_of e.now)) }
 {
     let Some(_first) = operand(Along::Operands, e) else {
-        return leaf(e, env, used, least);
+        return type_leaf(e, env, used, least);
     };
     let lowest = follow(Along::Operands, e);
     if lowest.count < LIMIT {
-        let end = leaf(lowest.end, env, true, least);
+        let end = type_leaf(lowest.end, env, true, least);
         rise(e, lowest.count, end, env, least)
     } else {
         let end = walk(lowest.end, env, true, least);

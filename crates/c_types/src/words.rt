@@ -1,8 +1,8 @@
 //! Arithmetic on values of 32 bits: a value, or nothing where the act is undefined.
 
 ghost use Rattle.std.specs.Prelude.{◌≡◌};
-ghost use Rattle.c_tree.specs.View.{shape};
-ghost use Rattle.c_tree.specs.Words.{sum, difference, product, quotient, remainder, left_shift, right_shift, is_less, truth, negative, infix_word, prefix_word, converted, given};
+ghost use Rattle.c_tree.specs.View.{ty_of};
+ghost use Rattle.c_tree.specs.Arithmetic.{sum, difference, product, quotient, remainder, left_shift, right_shift, is_less, truth, negative, binary_word, unary_word, converted, given};
 
 use c_tree::{Binary, CType, Unary};
 
@@ -107,8 +107,8 @@ fn truth(test: bool) -> u32
 }
 
 /// What an operator between two integers gives, both converted; the flag says that they are unsigned, for a shift the left one.
-pub fn infix_word(op: Binary, unsigned: bool, x: u32, y: u32) -> Option<u32>
-    ensures { result ≡ given (infix_word op unsigned x y) }
+pub fn binary_word(op: Binary, unsigned: bool, x: u32, y: u32) -> Option<u32>
+    ensures { result ≡ given (binary_word op unsigned x y) }
 {
     match op {
         Binary::Or => Some(truth(x != 0 || y != 0)),
@@ -144,8 +144,8 @@ fn negative(unsigned: bool, x: u32) -> Option<u32>
 }
 
 /// What an arithmetic operator before an integer gives; `*` and `&` leave the value.
-pub fn prefix_word(op: Unary, unsigned: bool, x: u32) -> Option<u32>
-    ensures { result ≡ given (prefix_word op unsigned x) }
+pub fn unary_word(op: Unary, unsigned: bool, x: u32) -> Option<u32>
+    ensures { result ≡ given (unary_word op unsigned x) }
 {
     match op {
         Unary::Plus => Some(x),
@@ -159,7 +159,7 @@ pub fn prefix_word(op: Unary, unsigned: bool, x: u32) -> Option<u32>
 
 /// A value converted to a type: to char modulo 2^8, else modulo 2^32 (C11 6.3.1.3).
 pub fn convert(value: u32, to: &CType) -> u32
-    ensures { result ≡ converted (shape to.now) value }
+    ensures { result ≡ converted (ty_of to.now) value }
 {
     match to {
         CType::Char => value % 256,

@@ -4,9 +4,9 @@ use Rattle.std.specs.Prelude.{codes}
 use Rattle.std.specs.List.{AllByRecursion}
 use Rattle.std.proofs.lemmas.List.{append_cancel_left}
 use Rattle.low_link.specs.Form.{IsPlain, IsReturn, IsForm, puts_text}
-use Rattle.low_link.specs.Reading.{BeginsNoPut}
+use Rattle.low_link.specs.private.FormReading.{BeginsNoPut}
 use Rattle.std.specs.Str.Parse.{digits_value}
-use Rattle.low_link.proofs.Ends.{same_digits}
+use Rattle.low_link.proofs.FormEnds.{same_digits}
 
 -- the characters of two readings of one text, and what stands behind them
 pub record SameReading (c d rest other : List ℕ) : Type 0 where
@@ -14,7 +14,8 @@ pub record SameReading (c d rest other : List ℕ) : Type 0 where
   pub behind : rest ≡ other
 
 -- statements that put characters are read in one way only
-pub same_puts : (c d rest other : List ℕ) → AllByRecursion IsPlain c → AllByRecursion IsPlain d → BeginsNoPut rest → BeginsNoPut other
+pub same_puts : (c d rest other : List ℕ) → AllByRecursion IsPlain c → AllByRecursion IsPlain d
+    → BeginsNoPut rest → BeginsNoPut other
     → puts_text c rest ≡ puts_text d other → SameReading c d rest other
 same_puts [] [] rest other p q none nothing e = record { characters = refl; behind = e }
 same_puts [] (y ∷ d) rest other p q none nothing e = absurd (none y (puts_text d other) q.0 e)
@@ -33,7 +34,8 @@ return-no_put text exit r character rest plain e =
     omega arith
 
 -- what is left behind the characters that were read is what is left of the form
-pub same_reading : (text body characters rest c : List ℕ) (x : ℤ) (form : IsForm text c x) → text ≡ codes "int main(void){" ++ body
+pub same_reading : (text body characters rest c : List ℕ) (x : ℤ) (form : IsForm text c x)
+    → text ≡ codes "int main(void){" ++ body
     → body ≡ puts_text characters rest → AllByRecursion IsPlain characters → BeginsNoPut rest → SameReading characters c rest form.last
 same_reading text body characters rest c x form e f plain none =
     let same : body ≡ puts_text c form.last = append_cancel_left (codes "int main(void){") body (puts_text c form.last) (sym e ∙ form.same) in

@@ -1,7 +1,7 @@
-pub mod Codes
-pub mod Constants
-pub mod Ends
+pub mod FormCodes
+pub mod FormValues
+pub mod FormEnds
 pub mod Forms
-pub mod Fronts
+pub mod FormFronts
 pub mod Puts
 pub mod Simulation

@@ -10,13 +10,13 @@ use Rattle.rv_code.specs.declared.stop.Stop.TheVariants.{Exit}
 use Rattle.rv_code.specs.Table.{IsInstr, word_of}
 use Rattle.rv_code.specs.State.{State, Running, start, register, with_register, stop_of, output_of}
 use Rattle.rv_code.specs.Step.{address_of, calls, step, sum_32}
-use Rattle.rv_code.specs.Run.{run, seq}
-use Rattle.rv_code.proofs.Runs.{run-zero, run-add}
-use Rattle.rv_code.proofs.Steps.{step-at}
+use Rattle.rv_code.specs.SequentialRun.{run, seq}
+use Rattle.rv_code.proofs.SequentialRunLemmas.{run-zero, run-add}
+use Rattle.rv_code.proofs.StepLemmas.{step-at}
 use Rattle.low_link.specs.Form.{IsPlain}
 use Rattle.low_link.specs.Code.{puts_code, upper_of, lower_of, return_code, code_of, program_of}
-use Rattle.low_link.specs.Laws.{Performs}
-use Rattle.low_link.proofs.Codes.{length-puts_code}
+use Rattle.low_link.specs.FormLaws.{Performs}
+use Rattle.low_link.proofs.FormCodes.{length-puts_code}
 
 -- the machine stands at a place of the code, with this output
 pub record At (place : ℕ) (out : List ℕ) (s : State) : Type 0 where
@@ -41,14 +41,17 @@ next-address : (pc place next : ℕ) → place < 2 ^ 20 → next ≡ place + 1 �
 next-address pc place next low is here = grind (arith, here)
 
 -- two writes, read back
-read-first : (registers : List ℕ) (v w : ℕ) → length registers ≡ 32 → slice_index (slice_set (slice_set registers 17 v) 10 w) 17 ≡ v
+read-first : (registers : List ℕ) (v w : ℕ) → length registers ≡ 32
+    → slice_index (slice_set (slice_set registers 17 v) 10 w) 17 ≡ v
 read-first registers v w many = grind (arith, common_steps)
 
-read-last : (registers : List ℕ) (v w : ℕ) → length registers ≡ 32 → slice_index (slice_set (slice_set registers 17 v) 10 w) 10 ≡ w
+read-last : (registers : List ℕ) (v w : ℕ) → length registers ≡ 32
+    → slice_index (slice_set (slice_set registers 17 v) 10 w) 10 ≡ w
 read-last registers v w many = grind (arith, common_steps)
 
 -- the three steps that put a character
-put-runs : (code input : List ℕ) (place character : ℕ) (out : List ℕ) (s : State) → place + 3 < 2 ^ 20 → character < 256
+put-runs : (code input : List ℕ) (place character : ℕ) (out : List ℕ) (s : State)
+    → place + 3 < 2 ^ 20 → character < 256
     → slice_get code place ≡ Some (word_of (Addi 17 0 (pos 2)))
     → slice_get code (place + 1) ≡ Some (word_of (Addi 10 0 (pos character)))
     → slice_get code (place + 2) ≡ Some (word_of Ecall)
@@ -76,7 +79,8 @@ put-runs code input place character out s low small first second third at =
     }
 
 -- an upper and a lower part make the number
-parts-make : (exit : ℤ) (n : ℕ) → exit ≡ pos n → n < 2 ^ 31 → sum_32 (upper_of exit * 4096) (cast_unsigned w32 (lower_of exit)) ≡ n
+parts-make : (exit : ℤ) (n : ℕ) → exit ≡ pos n → n < 2 ^ 31
+    → sum_32 (upper_of exit * 4096) (cast_unsigned w32 (lower_of exit)) ≡ n
 parts-make exit n is fits = rw is (grind (arith, ints, common_steps))
 
 upper-fits : (exit : ℤ) (n : ℕ) → exit ≡ pos n → n < 2 ^ 31 → IsInstr (Lui 10 (upper_of exit))
@@ -89,7 +93,8 @@ exit_value : (exit : ℤ) (n : ℕ) → exit ≡ pos n → n < 2 ^ 31 → cast_s
 exit_value exit n is fits = rw is (grind (arith, ints, common_steps))
 
 -- the four steps that exit
-end-runs : (code input : List ℕ) (place : ℕ) (exit : ℤ) (out : List ℕ) (s : State) → (n : ℕ) → exit ≡ pos n → n < 2 ^ 31 → place + 3 < 2 ^ 20
+end-runs : (code input : List ℕ) (place : ℕ) (exit : ℤ) (out : List ℕ) (s : State) → (n : ℕ)
+    → exit ≡ pos n → n < 2 ^ 31 → place + 3 < 2 ^ 20
     → slice_get code place ≡ Some (word_of (Lui 10 (upper_of exit)))
     → slice_get code (place + 1) ≡ Some (word_of (Addi 10 10 (lower_of exit)))
     → slice_get code (place + 2) ≡ Some (word_of (Addi 17 0 (pos 0)))
@@ -119,18 +124,21 @@ end-runs code input place exit out s n is fits low first second third fourth at 
     (ap stop_of f ∙ ap (λ (v : ℤ). Some (Exit v)) (exit_value exit n is fits), ap output_of f ∙ at.said)
 
 -- a word behind a front
-pub word_at : (front rest : List ℕ) (word : ℕ) → slice_get (front ++ word ∷ rest) (length front) ≡ Some word
+pub word_at : (front rest : List ℕ) (word : ℕ)
+    → slice_get (front ++ word ∷ rest) (length front) ≡ Some word
 word_at [] rest word = refl
 word_at (x ∷ front) rest word = word_at front rest word
 
 -- the same, further behind
-pub word_behind : (front mid rest : List ℕ) (word n : ℕ) → n ≡ length front + length mid → slice_get (front ++ (mid ++ word ∷ rest)) n ≡ Some word
+pub word_behind : (front mid rest : List ℕ) (word n : ℕ) → n ≡ length front + length mid
+    → slice_get (front ++ (mid ++ word ∷ rest)) n ≡ Some word
 word_behind front mid rest word n e =
     let long : length (front ++ mid) ≡ n = length-append front mid ∙ sym e in
     rw (← append_assoc front mid (word ∷ rest), ← long) (word_at (front ++ mid) rest word)
 
 -- the characters are put, one by one
-puts-run : (code input front characters last out : List ℕ) (s : State) → code ≡ front ++ (puts_code characters ++ last) → AllByRecursion IsPlain characters
+puts-run : (code input front characters last out : List ℕ) (s : State)
+    → code ≡ front ++ (puts_code characters ++ last) → AllByRecursion IsPlain characters
     → length front + 3 * length characters < 2 ^ 20
     → At (length front) out s → Comes code input (3 * length characters) s (length front + 3 * length characters) (out ++ characters)
 puts-run code input front [] last out s e plain low at =
@@ -164,7 +172,8 @@ unfolding start
 start-at characters exit = record { here = refl; many = refl; said = refl }
 
 -- the program of a text of the form puts its characters, and exits with its value
-pub performs : (characters input : List ℕ) (exit : ℤ) (n : ℕ) → exit ≡ pos n → n < 2 ^ 31 → AllByRecursion IsPlain characters
+pub performs : (characters input : List ℕ) (exit : ℤ) (n : ℕ) → exit ≡ pos n → n < 2 ^ 31
+    → AllByRecursion IsPlain characters
     → length characters ≤ 1000 → Performs (program_of characters exit) input characters exit
 unfolding seq
 performs characters input exit n is fits plain few =

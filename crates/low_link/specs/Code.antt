@@ -10,7 +10,8 @@ use Rattle.low_link.specs.Form.{IsForm}
 
 -- a character is put: the number of the call, the character, the call
 abbrev pub put_code : ℕ → List ℕ
-put_code character = word_of (Addi A7 0 (pos 2)) ∷ word_of (Addi A0 0 (pos character)) ∷ word_of Ecall ∷ []
+put_code character = word_of (Addi A7 0 (pos 2)) ∷ word_of (Addi A0 0 (pos character))
+    ∷ word_of Ecall ∷ []
 
 abbrev pub puts_code : List ℕ → List ℕ
 puts_code [] = []
@@ -25,14 +26,16 @@ lower_of number = signed_12 (cast_unsigned w32 number % 4096)
 
 -- the machine exits: the exit value, the number of the call, the call
 abbrev pub return_code : ℤ → List ℕ
-return_code exit = word_of (Lui A0 (upper_of exit)) ∷ word_of (Addi A0 A0 (lower_of exit)) ∷ word_of (Addi A7 0 (pos 0)) ∷ word_of Ecall ∷ []
+return_code exit = word_of (Lui A0 (upper_of exit)) ∷ word_of (Addi A0 A0 (lower_of exit))
+    ∷ word_of (Addi A7 0 (pos 0)) ∷ word_of Ecall ∷ []
 
 abbrev pub code_of : List ℕ → ℤ → List ℕ
 code_of characters exit = puts_code characters ++ return_code exit
 
 -- the program is entered at its first word, and has no data
 abbrev pub program_of : List ℕ → ℤ → Program
-program_of characters exit = record { code = code_of characters exit; bytes = []; entry = CODE_FROM }
+program_of characters exit =
+    record { code = code_of characters exit; bytes = []; entry = CODE_FROM }
 
 -- the program of a text
 pub record IsProgramOf (text : List ℕ) (program : Program) : Type 0 where

@@ -1,6 +1,6 @@
 pub mod Code
 pub mod Form
+pub mod FormLaws
 pub mod Front
-pub mod Laws
-pub mod Reading
 pub mod Refused
+pub mod private

@@ -17,7 +17,8 @@ pub fn compile(alloc: Global, text: &[u8]) -> Result<Program, Refused>
     ensures program { IfOk result (λ program. IsProgramOf text.now program) }
     ensures fits { IfOk result (λ program. length program.code ≤ CODE_WORDS) }
     ensures only { IfErr result IsUnbuilt }
-    ensures refused { IsErrOf result Refused.NotYetBuilt → (characters : List ℕ) (exit : ℤ) → IsForm text.now characters exit → ⊥ }
+    ensures refused { IsErrOf result Refused.NotYetBuilt → (characters : List ℕ) (exit : ℤ)
+        → IsForm text.now characters exit → ⊥ }
 {
     let form = read_form(alloc, text)?;
     let code = code(alloc, &form.characters, form.exit)?;
@@ -29,7 +30,7 @@ pub fn compile(alloc: Global, text: &[u8]) -> Result<Program, Refused>
 }
 
 // Code that puts characters and exits.
-#[tactic(auto, using(crate::proofs::Codes::puts_code_more))]
+#[tactic(auto, using(crate::proofs::FormCodes::puts_code_more))]
 fn code(alloc: Global, characters: &[u8], exit: i32) -> Result<Vec<u32>, AllocError>
     requires { pos 0 ≤ℤ exit }
     ensures { IfOk result (λ code. code.items ≡ code_of characters.now exit) }
@@ -71,7 +72,8 @@ fn finish(code: &mut Vec<u32>, exit: i32) -> Result<(), AllocError>
 // Adds an ADDI.
 fn add_immediate(code: &mut Vec<u32>, rd: u8, rs1: u8, imm: i32) -> Result<(), AllocError>
     requires { IsInstr (Instr.Addi rd rs1 imm) }
-    ensures { OnOk result (code.new.items ≡ code.old.items ++ word_of (Instr.Addi rd rs1 imm) ∷ []) }
+    ensures { OnOk result (code.new.items
+        ≡ code.old.items ++ word_of (Instr.Addi rd rs1 imm) ∷ []) }
 {
     add(code, Instr::Addi { rd, rs1, imm })
 }

@@ -3,7 +3,7 @@ ghost use Rattle.std.specs.Prelude.{◌≡◌, ◌≤◌, ◌++◌, ◌<◌, Lis
 ghost use Rattle.std.specs.Char.{IsAsciiDigit};
 ghost use Rattle.std.specs.List.{All, AllByRecursion};
 ghost use Rattle.low_link.specs.Form.{IsPlain, HasLeadingZero, IsConstant, IsEnd, IsReturn, IsForm, put_text, puts_text};
-ghost use Rattle.low_link.specs.Reading.{BeginsNoPut};
+ghost use Rattle.low_link.specs.private.FormReading.{BeginsNoPut};
 ghost use Rattle.low_link.specs.Refused.{IsUnbuilt};
 
 use crate::Refused;
@@ -24,7 +24,8 @@ pub struct Form {
 pub fn read_form(alloc: Global, text: &[u8]) -> Result<Form, Refused>
     ensures form { IfOk result (λ form. IsForm text.now form.characters.items form.exit) }
     ensures only { IfErr result IsUnbuilt }
-    ensures refused { IsErrOf result Refused.NotYetBuilt → (characters : List ℕ) (exit : ℤ) → IsForm text.now characters exit → ⊥ }
+    ensures refused { IsErrOf result Refused.NotYetBuilt → (characters : List ℕ) (exit : ℤ)
+        → IsForm text.now characters exit → ⊥ }
 {
     let Some(body) = without_front(text, b"int main(void){") else {
         return Err(Refused::NotYetBuilt);
@@ -66,7 +67,8 @@ fn read_puts(alloc: Global, text: &[u8]) -> Result<Puts<'_>, AllocError>
 
 // Reads one statement `putchar('C');`.
 fn read_put(text: &[u8]) -> Option<(u8, &[u8])>
-    ensures { MatchOption result (BeginsNoPut text.now) (λ put. IsPlain put.0 × (text.now ≡ put_text put.0 put.1.now)) }
+    ensures { MatchOption result (BeginsNoPut text.now)
+        (λ put. IsPlain put.0 × (text.now ≡ put_text put.0 put.1.now)) }
 {
     let [character, behind @ ..] = without_front(text, b"putchar('")? else {
         return None;
@@ -80,7 +82,8 @@ fn read_put(text: &[u8]) -> Option<(u8, &[u8])>
 
 // Reads `return N;}` to the end of the text.
 fn read_return(text: &[u8]) -> Option<i32>
-    ensures { MatchOption result ((exit : ℤ) → IsReturn text.now exit → ⊥) (λ exit. IsReturn text.now exit) }
+    ensures { MatchOption result ((exit : ℤ) → IsReturn text.now exit → ⊥)
+        (λ exit. IsReturn text.now exit) }
 {
     let behind = without_front(text, b"return ")?;
     read_constant(before_end(behind)?)
@@ -99,7 +102,8 @@ fn before_end(text: &[u8]) -> Option<&[u8]>
 
 // Reads a decimal constant without leading zeros.
 fn read_constant(digits: &[u8]) -> Option<i32>
-    ensures { MatchOption result ((value : ℤ) → IsConstant digits.now value → ⊥) (λ value. IsConstant digits.now value) }
+    ensures { MatchOption result ((value : ℤ) → IsConstant digits.now value → ⊥)
+        (λ value. IsConstant digits.now value) }
 {
     if !are_digits(digits) {
         return None;
@@ -127,14 +131,16 @@ fn has_leading_zero(digits: &[u8]) -> bool
 
 // What stands behind a front.
 fn without_front<'a>(text: &'a [u8], front: &[u8]) -> Option<&'a [u8]>
-    ensures { MatchOption result ((rest : List ℕ) → text.now ≡ front.now ++ rest → ⊥) (λ rest. text.now ≡ front.now ++ rest.now) }
+    ensures { MatchOption result ((rest : List ℕ) → text.now ≡ front.now ++ rest → ⊥)
+        (λ rest. text.now ≡ front.now ++ rest.now) }
 {
     text.strip_prefix(front)
 }
 
 // What stands before a back.
 fn without_back<'a>(text: &'a [u8], back: &[u8]) -> Option<&'a [u8]>
-    ensures { MatchOption result ((rest : List ℕ) → text.now ≡ rest ++ back.now → ⊥) (λ rest. text.now ≡ rest.now ++ back.now) }
+    ensures { MatchOption result ((rest : List ℕ) → text.now ≡ rest ++ back.now → ⊥)
+        (λ rest. text.now ≡ rest.now ++ back.now) }
 {
     text.strip_suffix(back)
 }

@@ -1,7 +1,7 @@
 //! From a text to a checked tree and its layout.
 
 ghost use Rattle.std.specs.Prelude.{◌≡◌, ◌≤◌, IfOk, IfErr, MatchResult, length};
-ghost use Rattle.c_tree.specs.View.{parts};
+ghost use Rattle.c_tree.specs.View.{items_of};
 ghost use Rattle.low_link.specs.Front.{Spells, IsAccepted, Refuses, Fronted};
 
 use crate::Refused;
@@ -15,7 +15,7 @@ use std::alloc::Global;
 /// The tree of a text.
 fn read(alloc: Global, text: &[u8]) -> Result<Tree, Refused>
     requires { length text.now ≤ 1048576 }
-    ensures { MatchResult result (λ tree. Spells text.now (parts tree)) (Refuses text.now) }
+    ensures { MatchResult result (λ tree. Spells text.now (items_of tree)) (Refuses text.now) }
 {
     let tokens = tokens(alloc, text)?;
     Ok(parse(alloc, &tokens)?)
@@ -24,7 +24,8 @@ fn read(alloc: Global, text: &[u8]) -> Result<Tree, Refused>
 /// The tree of a text, as one that is accepted.
 fn accept(alloc: Global, text: &[u8]) -> Result<Checked, Refused>
     requires { length text.now ≤ 1048576 }
-    ensures { MatchResult result (λ checked. IsAccepted text.now (parts checked.tree)) (Refuses text.now) }
+    ensures { MatchResult result (λ checked. IsAccepted text.now (items_of checked.tree))
+        (Refuses text.now) }
 {
     let tree = read(alloc, text)?;
     Ok(check(alloc, tree)?)

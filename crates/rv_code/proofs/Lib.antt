@@ -1,3 +1,3 @@
 pub mod Outputs
-pub mod Runs
-pub mod Steps
+pub mod SequentialRunLemmas
+pub mod StepLemmas

@@ -1,5 +1,5 @@
-pub mod Table
+pub mod RunLaws
+pub mod SequentialRun
 pub mod State
 pub mod Step
-pub mod Run
-pub mod Laws
+pub mod Table

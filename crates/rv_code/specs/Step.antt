@@ -50,7 +50,8 @@ calls input s number argument =
 abbrev pub acts : List ℕ → State → Option Instr → Machine
 acts input s None = halts s (stop.Trap trap.Illegal s.pc)
 acts input s (Some (Lui rd upper)) = writes s rd (upper * 4096)
-acts input s (Some (Addi rd rs1 imm)) = writes s rd (sum_32 (register s.registers rs1) (cast_unsigned w32 imm))
+acts input s (Some (Addi rd rs1 imm)) =
+    writes s rd (sum_32 (register s.registers rs1) (cast_unsigned w32 imm))
 acts input s (Some Ecall) = calls input s (register s.registers A7) (register s.registers A0)
 
 -- the address of a word of the code, by its place
@@ -59,7 +60,8 @@ address_of place = CODE_FROM + 4 * place
 
 -- the word at an address of the code
 abbrev pub fetch : List ℕ → ℕ → Option ℕ
-fetch code pc = if nat_le CODE_FROM pc && (pc % 4 == 0) then slice_get code ((pc - CODE_FROM) / 4) else None
+fetch code pc = if nat_le CODE_FROM pc && (pc % 4 == 0) then slice_get code ((pc - CODE_FROM) / 4)
+    else None
 
 abbrev pub executes : List ℕ → State → Option ℕ → Machine
 executes input s None = halts s (stop.Trap trap.Fetch s.pc)

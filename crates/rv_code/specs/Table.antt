@@ -39,7 +39,8 @@ u_word code rd upper = upper * 4096 + rd * 128 + code
 
 -- the I format
 abbrev pub i_word : ℕ → ℕ → ℕ → ℕ → ℤ → ℕ
-i_word code f3 rd rs1 imm = cast_unsigned w32 imm % 4096 * 1048576 + rs1 * 32768 + f3 * 4096 + rd * 128 + code
+i_word code f3 rd rs1 imm =
+    cast_unsigned w32 imm % 4096 * 1048576 + rs1 * 32768 + f3 * 4096 + rd * 128 + code
 
 -- the fields are in range
 abbrev pub IsInstr : Instr → Type 0
@@ -57,6 +58,7 @@ word_of Ecall = 115
 abbrev pub instr_of : ℕ → Option Instr
 instr_of word =
     if opcode word == 55 then Some (Lui (rd_field word) (imm_u word))
-    else (if (opcode word == 19) && (funct3 word == 0) then Some (Addi (rd_field word) (rs1_field word) (imm_i word))
+    else (if (opcode word == 19) && (funct3 word == 0)
+    then Some (Addi (rd_field word) (rs1_field word) (imm_i word))
     else (if word == 115 then Some Ecall
     else None))

@@ -28,7 +28,8 @@ pub fn decode(word: u32) -> Option<Instr>
 
     // An answer is the one instruction with this word; with none, no instruction has it.
     ensures sound { IfSome result (λ instr. IsInstr instr × (word_of instr ≡ word)) }
-    ensures complete { (instr : Instr) → IsInstr instr → word_of instr ≡ word → result ≡ Some instr }
+    ensures complete { (instr : Instr) → IsInstr instr → word_of instr ≡ word
+        → result ≡ Some instr }
 {
     let rd = (word / 128 % 32) as u8;
     if word % 128 == 0x37 {

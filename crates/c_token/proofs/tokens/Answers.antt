@@ -1,5 +1,5 @@
 use Rattle.std.proofs.Common.{refl}
-use Rattle.c_token.proofs.Steps.{steps_read, finished}
+use Rattle.c_token.proofs.ReadingSteps.{steps_read, finished}
 use Rattle.c_token.proofs.TokenFacts.{answer_proper, answer_count, answer_end}
 use Rattle.c_token.proofs.tokens.Goals as goal
 

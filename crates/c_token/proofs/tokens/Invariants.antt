@@ -1,5 +1,5 @@
 use Rattle.std.proofs.Common.{length}
-use Rattle.c_token.specs.Readers.{HasRead}
+use Rattle.c_token.specs.private.Readers.{HasRead}
 use Rattle.c_token.proofs.tokens.Given as goal
 
 abbrev pub invariant-loop-reader : goal.invariant-loop-reader

@@ -1,7 +1,7 @@
 use Rattle.std.proofs.Common.{arith}
 use Rattle.std.proofs.lemmas.List.{take_rest}
 use Rattle.std.proofs.lemmas.Grind.{common_steps}
-use Rattle.bop_ends.proofs.Written.{writes_more}
+use Rattle.bop_ends.proofs.WrittenPieces.{writes_more}
 use Rattle.bop_ends.proofs.real_sink.write_whole.Goals as goal
 
 pub loop-rest-preserved : goal.loop-rest-preserved

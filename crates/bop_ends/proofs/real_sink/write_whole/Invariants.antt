@@ -1,5 +1,5 @@
 use Rattle.std.proofs.Common.{length}
-use Rattle.bop_ends.proofs.Written.{IsWrittenTo}
+use Rattle.bop_ends.proofs.WrittenPieces.{IsWrittenTo}
 use Rattle.bop_ends.proofs.real_sink.write_whole.Given as goal
 
 abbrev pub invariant-loop-rest : goal.invariant-loop-rest

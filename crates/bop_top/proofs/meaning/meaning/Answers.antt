@@ -1,6 +1,6 @@
 use Rattle.std.proofs.Common.{sym}
 use Rattle.std.proofs.lemmas.Result.{err_from_is_err_and}
-use Rattle.c_tree.specs.View.{parts}
+use Rattle.c_tree.specs.View.{items_of}
 use Rattle.bop_top.proofs.Loads.{accepted_of, fine_of}
 use Rattle.bop_top.proofs.Meanings.{unread_unmeant}
 use Rattle.bop_top.proofs.meaning.meaning.Goals as goal
@@ -17,4 +17,4 @@ returns-in-Ok-evaluate_erased-clause-meant g c =
     let whole = c.in_ok-bytes.ensures.whole in
     let same = sym (rw c.deref.ensures.value at c.in-Ok-evaluate_erased.ensures) in
     let accepted = accepted_of c.args.text.now c.in-Ok.parts.0 c.in-Ok.parts.1 c.in-Ok.ensures in
-    (_, whole.0, (parts c.in-Ok.parts.0.tree, accepted, c.in-Ok.ensures.fits, same), whole.1)
+    (_, whole.0, (items_of c.in-Ok.parts.0.tree, accepted, c.in-Ok.ensures.fits, same), whole.1)

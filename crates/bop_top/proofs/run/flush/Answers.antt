@@ -1,5 +1,5 @@
 use Rattle.std.proofs.lemmas.Result.{err_from_is_err_and}
-use Rattle.byte_lists.proofs.Contents.{AppendsPrefix-take}
+use Rattle.byte_lists.proofs.ContentLemmas.{AppendsPrefix-take}
 use Rattle.bop_top.proofs.run.flush.Goals as goal
 
 pub returns-in_err-append-clause-part : goal.returns-in_err-append-clause-part

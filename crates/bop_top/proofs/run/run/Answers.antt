@@ -2,7 +2,7 @@ use Rattle.std.proofs.Common.{◌≡◌, ◌≤◌, ◌++◌, refl, ◌∙◌, a
 use Rattle.std.proofs.lemmas.Grind.{common_steps}
 use Rattle.std.proofs.lemmas.Result.{err_from_is_err_and}
 use Rattle.rv_code.specs.State.{start}
-use Rattle.rv_code.specs.Run.{seq}
+use Rattle.rv_code.specs.SequentialRun.{seq}
 use Rattle.bop_top.proofs.Running.{none_of, count-at_start, stands-at_start, stands-quiet, stands-put, part-put, at-budget, at-stop, state-at_end, sink-at_end, part-at_end}
 use Rattle.bop_top.proofs.run.run.Goals as goal
 use Rattle.bop_top.proofs.run.run.Goals.{then-loop-machine-test+else-is_none, else-loop-machine-test}

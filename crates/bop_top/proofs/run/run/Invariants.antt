@@ -4,7 +4,8 @@ use Rattle.bop_top.proofs.run.run.Given as goal
 
 abbrev pub invariant-loop-machine : goal.invariant-loop-machine
 invariant-loop-machine g l = record {
-  stands : Stands l.program l.input l.machine (g.K.Sink.content l.initial.sink) (g.K.Sink.content l.sink) l.piece;
+  stands : Stands l.program l.input l.machine (g.K.Sink.content l.initial.sink)
+      (g.K.Sink.content l.sink) l.piece;
   room : length l.piece < 4096;
   faults : g.K.Sink.faults l.sink ≡ g.K.Sink.faults l.initial.sink;
   count : l.machine.count ≤ l.budget;

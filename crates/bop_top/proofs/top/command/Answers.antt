@@ -2,7 +2,7 @@ use Rattle.std.proofs.Common.{[], map, refl}
 use Rattle.std.specs.Prelude.{string_bytes}
 use Rattle.std.proofs.KnownBytes.{Appends-nil, Consumes-nil}
 use Rattle.bop_top.specs.Headline.{Says, Transfers}
-use Rattle.bop_top.specs.Words.{Request, Seq, Check, IsRequest, name_of}
+use Rattle.bop_top.specs.CommandWords.{Request, Seq, Check, IsRequest, name_of}
 use Rattle.bop_top.proofs.Requests.{of_each, no_meaning, seq_asks_no_meaning, check_asks_no_meaning}
 use Rattle.bop_top.proofs.top.command.Goals as goal
 

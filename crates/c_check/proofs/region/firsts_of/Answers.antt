@@ -1,5 +1,5 @@
 use Rattle.std.proofs.Common.{take}
-use Rattle.c_check.proofs.Regions.{one_more}
+use Rattle.c_check.proofs.RegionLemmas.{one_more}
 use Rattle.c_check.proofs.region.firsts_of.Goals as goal
 
 pub loop-edge-preserved : goal.loop-edge-preserved

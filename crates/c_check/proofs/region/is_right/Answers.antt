@@ -1,6 +1,6 @@
 use Rattle.std.proofs.Common.{◌≡◌, false, not, is_some, ap, sym, ◌∙◌}
 use Rattle.c_tree.specs.Regions.{first_edge, is_right_before}
-use Rattle.c_check.proofs.Regions.{right_when}
+use Rattle.c_check.proofs.RegionLemmas.{right_when}
 use Rattle.c_check.proofs.region.is_right.Goals as goal
 
 pub returns-else-is_some-2 : goal.returns-else-is_some-2

@@ -1,10 +1,10 @@
 use Rattle.std.proofs.lemmas.Result.{err_from_is_err_and}
-use Rattle.c_decl.proofs.Ends.{ended_ends}
-use Rattle.c_decl.proofs.Exact.{text_refused, text_whole, text_left}
+use Rattle.c_decl.proofs.EndedTokensLemmas.{ended_ends}
+use Rattle.c_decl.proofs.ExactTexts.{text_refused, text_whole, text_left}
 use Rattle.c_decl.proofs.unit.parse.Goals as goal
 
-pub invariant_of-unit : goal.invariant_of-unit
-invariant_of-unit c = record { ends = ended_ends c.args.tokens.now c.requires }
+pub invariant_of-parse_items : goal.invariant_of-parse_items
+invariant_of-parse_items c = record { ends = ended_ends c.args.tokens.now c.requires }
 
 pub returns-in_err-items : goal.returns-in_err-items
 returns-in_err-items c =

@@ -1,5 +1,5 @@
 use Rattle.std.proofs.lemmas.Result.{err_from_is_err_and}
-use Rattle.c_expr.proofs.Exact.{ok_at, err_at}
+use Rattle.c_expr.proofs.ExactExpressions.{ok_at, err_at}
 use Rattle.c_expr.proofs.answer.parse_rule.Goals as goal
 
 pub returns : goal.returns

@@ -1,63 +1,65 @@
 use Rattle.std.proofs.Common.{◌≡◌, ◌<◌, ◌≤◌, [], length, map, ◌+◌, ◌-◌, ◌*◌}
-use Rattle.c_tree.specs.View.{expression}
-use Rattle.c_expr.specs.Reading as read
+use Rattle.c_tree.specs.View.{expr_of}
+use Rattle.c_expr.specs.private.ExpressionReading as read
 use Rattle.c_expr.proofs.parse.+rules.Given as goal
 
 abbrev pub decreases-open_rule : goal.decreases-open_rule
 decreases-open_rule l = 16 * l.room
 
-abbrev pub decreases-assign : goal.decreases-assign
-decreases-assign l = 16 * l.room + 1
+abbrev pub decreases-parse_assign : goal.decreases-parse_assign
+decreases-parse_assign l = 16 * l.room + 1
 
-abbrev pub decreases-cond : goal.decreases-cond
-decreases-cond l = 16 * l.room + 12
+abbrev pub decreases-parse_conditional : goal.decreases-parse_conditional
+decreases-parse_conditional l = 16 * l.room + 12
 
-abbrev pub decreases-unary : goal.decreases-unary
-decreases-unary l = 16 * l.room + 7
+abbrev pub decreases-parse_unary : goal.decreases-parse_unary
+decreases-parse_unary l = 16 * l.room + 7
 
-abbrev pub decreases-binary : goal.decreases-binary
-decreases-binary l = 16 * l.room + l.at + 1
+abbrev pub decreases-parse_binary : goal.decreases-parse_binary
+decreases-parse_binary l = 16 * l.room + l.at + 1
 
-abbrev pub decreases-after_open : goal.decreases-after_open
-decreases-after_open l = 16 * l.room + 2
+abbrev pub decreases-parse_cast_or_group : goal.decreases-parse_cast_or_group
+decreases-parse_cast_or_group l = 16 * l.room + 2
 
-abbrev pub decreases-suffixes : goal.decreases-suffixes
-decreases-suffixes l = 16 * l.room + 1
+abbrev pub decreases-parse_suffixes : goal.decreases-parse_suffixes
+decreases-parse_suffixes l = 16 * l.room + 1
 
-abbrev pub decreases-primary : goal.decreases-primary
-decreases-primary l = 16 * l.room + 6
+abbrev pub decreases-parse_primary : goal.decreases-parse_primary
+decreases-parse_primary l = 16 * l.room + 6
 
-abbrev pub decreases-reserved : goal.decreases-reserved
-decreases-reserved l = 16 * l.room + 4
+abbrev pub decreases-parse_reserved : goal.decreases-parse_reserved
+decreases-parse_reserved l = 16 * l.room + 4
 
-abbrev pub decreases-named : goal.decreases-named
-decreases-named l = 16 * l.room + 4
+abbrev pub decreases-parse_name : goal.decreases-parse_name
+decreases-parse_name l = 16 * l.room + 4
 
-abbrev pub decreases-call : goal.decreases-call
-decreases-call l = 16 * l.room + 3
+abbrev pub decreases-parse_call : goal.decreases-parse_call
+decreases-parse_call l = 16 * l.room + 3
 
-abbrev pub decreases-arguments : goal.decreases-arguments
-decreases-arguments l = 16 * l.room + 1
+abbrev pub decreases-parse_arguments : goal.decreases-parse_arguments
+decreases-parse_arguments l = 16 * l.room + 1
 
-abbrev pub invariant-arguments-loop : goal.invariant-arguments-loop
-invariant-arguments-loop l =
-    read.turns (read.argument read.ruled l.room) (length l.tokens) [] l.tokens ≡ read.turns (read.argument read.ruled l.room) (l.end - l.counter) (map expression l.found.items) l.rest
+abbrev pub invariant-parse_arguments-loop : goal.invariant-parse_arguments-loop
+invariant-parse_arguments-loop l =
+    read.turns (read.argument read.ruled l.room) (length l.tokens) [] l.tokens ≡ read.turns (read.argument read.ruled l.room) (l.end - l.counter) (map expr_of l.found.items) l.rest
 
-abbrev pub invariant-binary-loop-operator : goal.invariant-binary-loop-operator
-invariant-binary-loop-operator l = record {
+abbrev pub invariant-parse_binary-loop-operator : goal.invariant-parse_binary-loop-operator
+invariant-parse_binary-loop-operator l = record {
   some : 0 < l.at;
   bound : l.room ≤ l.fn.room;
-  read : read.binary read.ruled l.at l.fn.room l.tokens ≡ read.chain_from (read.binary read.ruled (l.at - 1)) l.at l.room (expression l.left) l.rest;
+  read : read.binary read.ruled l.at l.fn.room l.tokens
+      ≡ read.chain_from (read.binary read.ruled (l.at - 1)) l.at l.room (expr_of l.left) l.rest;
 }
 
-abbrev pub decreases-binary-loop-operator : goal.decreases-binary-loop-operator
-decreases-binary-loop-operator l = l.room
+abbrev pub decreases-parse_binary-loop-operator : goal.decreases-parse_binary-loop-operator
+decreases-parse_binary-loop-operator l = l.room
 
-abbrev pub invariant-suffixes-loop-rest : goal.invariant-suffixes-loop-rest
-invariant-suffixes-loop-rest l = record {
+abbrev pub invariant-parse_suffixes-loop-rest : goal.invariant-parse_suffixes-loop-rest
+invariant-parse_suffixes-loop-rest l = record {
   bound : l.room ≤ l.fn.room;
-  read : read.suffixes_from read.ruled l.fn.room (expression l.fn.first) l.tokens ≡ read.suffixes_from read.ruled l.room (expression l.value) l.rest;
+  read : read.suffixes_from read.ruled l.fn.room (expr_of l.fn.first) l.tokens
+      ≡ read.suffixes_from read.ruled l.room (expr_of l.value) l.rest;
 }
 
-abbrev pub decreases-suffixes-loop-rest : goal.decreases-suffixes-loop-rest
-decreases-suffixes-loop-rest l = l.room
+abbrev pub decreases-parse_suffixes-loop-rest : goal.decreases-parse_suffixes-loop-rest
+decreases-parse_suffixes-loop-rest l = l.room

@@ -1,5 +1,5 @@
 use Rattle.std.proofs.Common.{◌≡◌, ◌+◌, ◌∷◌, ◌++◌, get_or, drop, map, ap, sym, ◌∙◌, arith, add-one, drop-cons}
-use Rattle.c_layout.specs.Capped.{narrow}
+use Rattle.c_layout.specs.private.Capped.{narrow}
 use Rattle.c_layout.specs.Frames.{offsets_from, end_from}
 use Rattle.c_layout.proofs.Narrow.{offset_next, end_next}
 use Rattle.c_layout.proofs.frame.line_up.Goals as goal

@@ -1,13 +1,13 @@
 use Rattle.std.proofs.Common.{◌≡◌, ◌≤◌, ◌+◌, ◌*◌, max, drop}
 use Rattle.c_tree.specs.declared.tree.Expr.{size-Expr}
-use Rattle.c_tree.specs.View.{expression, expressions}
-use Rattle.c_layout.specs.Capped.{few}
+use Rattle.c_tree.specs.View.{expr_of, exprs_of}
+use Rattle.c_layout.specs.private.Capped.{few}
 use Rattle.c_layout.specs.Slots.{slots, slots_from}
 use Rattle.c_layout.proofs.slots.+slots.Given as goal
 
 abbrev pub invariant-slots-loop-first : goal.invariant-slots-loop-first
 invariant-slots-loop-first l = record {
-  slots : max l.most (few (slots (expression l.end))) ≡ few (slots (expression l.e));
+  slots : max l.most (few (slots (expr_of l.end))) ≡ few (slots (expr_of l.e));
   most : l.most ≤ 16385;
   small : size-Expr l.end ≤ size-Expr l.e;
 }
@@ -19,7 +19,8 @@ abbrev pub invariant-argument_slots-loop-arg : goal.invariant-argument_slots-loo
 invariant-argument_slots-loop-arg l = record {
   most : l.most ≤ 16385;
   at : l.at ≡ few l.arg-index;
-  done : max l.most (few (slots_from l.arg-index (expressions (drop l.arg-index l.args)))) ≡ few (slots_from 0 (expressions l.args));
+  done : max l.most (few (slots_from l.arg-index (exprs_of (drop l.arg-index l.args))))
+      ≡ few (slots_from 0 (exprs_of l.args));
 }
 
 abbrev pub decreases-slots : goal.decreases-slots

@@ -11,15 +11,15 @@ use Rattle.c_meaning.specs.declared.pending.Work.{Work}
 use Rattle.c_meaning.specs.declared.pending.Work.TheVariants as item
 use Rattle.c_resolve.specs.declared.routine.Parameter.{Parameter}
 use Rattle.c_resolve.specs.Actions.{arguments_run, body_run}
-use Rattle.c_meaning.specs.Called.{entered_after}
-use Rattle.c_meaning.specs.Machine.{store_of, Ran}
+use Rattle.c_meaning.specs.private.Called.{entered_after}
+use Rattle.c_meaning.specs.private.EvaluatorState.{store_of, Ran}
 use Rattle.c_semantics.specs.Meaning.{calls_at}
-use Rattle.c_meaning.specs.Opened.{opened_all}
-use Rattle.c_meaning.specs.Pending.{after}
+use Rattle.c_meaning.specs.private.Opened.{opened_all}
+use Rattle.c_meaning.specs.private.Pending.{after}
 use Rattle.c_semantics.specs.Run.{Run, ◌>>=◌, ◌>>◌, now, change}
 use Rattle.c_meaning.proofs.Halting.{ran_then}
 use Rattle.c_meaning.proofs.Living.{with_locals_then, with_open}
-use Rattle.c_semantics.proofs.Runs.{assoc}
+use Rattle.c_semantics.proofs.RunLemmas.{assoc}
 use Rattle.c_meaning.proofs.calling.begin.Goals as goal
 
 pub returns : goal.returns

@@ -2,13 +2,13 @@ use Rattle.std.proofs.Common.{◌≡◌, ◌∙◌, ℕ, zero, suc, Option, Some
 use Rattle.std.specs.Prelude.{slice_get}
 use Rattle.std.proofs.lemmas.Option.{slice_get_past, slice_get_read}
 use Rattle.c_resolve.specs.declared.node.Target.TheVariants as target
-use Rattle.c_meaning.specs.Called.{call_after}
+use Rattle.c_meaning.specs.private.Called.{call_after}
 use Rattle.c_semantics.specs.Meaning.{calls_at}
 use Rattle.c_resolve.specs.Nodes.{target_run}
 use Rattle.c_resolve.specs.Routines.{definitions_of}
 use Rattle.c_semantics.specs.Run.{Run, Ended}
-use Rattle.c_meaning.specs.Turned.{Turned}
-use Rattle.c_resolve.proofs.Routines.{entered_at, full_at, missing_at}
+use Rattle.c_meaning.specs.private.Turned.{Turned}
+use Rattle.c_resolve.proofs.RoutinesLemmas.{entered_at, full_at, missing_at}
 use Rattle.c_meaning.proofs.calling.call_routine.Goals as goal
 
 pub returns-in_default : goal.returns-in_default

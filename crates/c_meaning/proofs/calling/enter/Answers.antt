@@ -1,17 +1,17 @@
 use Rattle.std.proofs.Common.{◌≡◌, ◌∙◌, ◌≤◌, ◌+◌, ◌-◌, ℕ, suc, List, [], ◌∷◌, Option, sym, ap, subst, reverse, arith}
 use Rattle.std.proofs.lemmas.List.{reverse-append}
 use Rattle.bop_bits.specs.declared.map.TheConstants.{STACK_FROM}
-use Rattle.c_semantics.specs.declared.flow.Flow.TheVariants.{Gave}
+use Rattle.c_semantics.specs.declared.flow.Flow.TheVariants.{AtReturn}
 use Rattle.c_meaning.specs.declared.machine.Machine.{Machine}
 use Rattle.c_meaning.specs.declared.pending.Edge.TheVariants as edge
 use Rattle.c_meaning.specs.declared.pending.Pending.{Pending}
 use Rattle.c_meaning.specs.declared.pending.Work.{Work}
 use Rattle.c_meaning.specs.declared.pending.Work.TheVariants as item
-use Rattle.c_meaning.specs.Called.{entered, entered_after}
-use Rattle.c_meaning.specs.Machine.{store_of}
-use Rattle.c_meaning.specs.Pending.{after}
+use Rattle.c_meaning.specs.private.Called.{entered, entered_after}
+use Rattle.c_meaning.specs.private.EvaluatorState.{store_of}
+use Rattle.c_meaning.specs.private.Pending.{after}
 use Rattle.c_semantics.specs.Run.{Run, Ended, ◌>>=◌}
-use Rattle.c_meaning.specs.Turned.{Turned}
+use Rattle.c_meaning.specs.private.Turned.{Turned}
 use Rattle.c_meaning.proofs.Framing.{in_frame_then}
 use Rattle.c_meaning.proofs.calling.enter.Goals as goal
 
@@ -26,7 +26,7 @@ returns c = λ definitions text input depth deep.
     let leaves : Work = item.Edge (edge.Leave m.sp r.is_main) in
     let framed : Machine = record m { sp = m.sp - r.frame } in
     let left : Pending = record { work = c.push.new.self; values = p.values; flow = p.flow; depth = p.depth - 1 } in
-    let rest : Option ℕ → Run (Option ℕ) = λ v. after definitions text input w (suc depth) (Gave v) vs in
+    let rest : Option ℕ → Run (Option ℕ) = λ v. after definitions text input w (suc depth) (AtReturn v) vs in
     let room : STACK_FROM + r.frame ≤ m.sp = omega (arith, c.if-from.false, c.from.ensures, c.from-2.ensures, c.from-3.ensures) in
     let shallow : depth ≡ p.depth - 1 = omega (arith, deep) in
     let closed = ap reverse c.in_ok-push.ensures.items ∙ reverse-append p.work.items (leaves ∷ []) in

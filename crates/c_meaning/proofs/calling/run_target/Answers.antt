@@ -1,8 +1,8 @@
 use Rattle.std.proofs.Common.{sym, subst}
 use Rattle.c_resolve.specs.declared.node.Target.{Target}
-use Rattle.c_meaning.specs.Called.{target_after}
+use Rattle.c_meaning.specs.private.Called.{target_after}
 use Rattle.c_resolve.specs.Routines.{definitions_of}
-use Rattle.c_meaning.specs.Turned.{Turned}
+use Rattle.c_meaning.specs.private.Turned.{Turned}
 use Rattle.c_meaning.proofs.calling.run_target.Goals as goal
 
 pub returns-in-Function : goal.returns-in-Function

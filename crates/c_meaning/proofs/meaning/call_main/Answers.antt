@@ -4,14 +4,14 @@ use Rattle.c_meaning.specs.declared.pending.Task.TheVariants as task
 use Rattle.c_meaning.specs.declared.pending.Work.{Work}
 use Rattle.c_meaning.specs.declared.pending.Work.TheVariants as work
 use Rattle.c_semantics.specs.Eval.{Calls, enter}
-use Rattle.c_meaning.specs.Machine.{store_of}
+use Rattle.c_meaning.specs.private.EvaluatorState.{store_of}
 use Rattle.c_semantics.specs.Meaning.{calls_at, definition, main_name, start}
 use Rattle.c_semantics.specs.Names.{Definition}
 use Rattle.c_resolve.specs.Nodes.{target_run}
-use Rattle.c_meaning.specs.Pending.{after}
+use Rattle.c_meaning.specs.private.Pending.{after}
 use Rattle.c_resolve.specs.Routines.{definitions_of}
 use Rattle.c_semantics.specs.Run.{Store, Run, ◌>>◌, count}
-use Rattle.c_semantics.proofs.Runs.{then_pure}
+use Rattle.c_semantics.proofs.RunLemmas.{then_pure}
 use Rattle.c_meaning.proofs.meaning.call_main.Goals as goal
 
 pub returns : goal.returns

@@ -1,19 +1,19 @@
 use Rattle.std.proofs.Common.{◌≡◌, ℕ, List, Option, IfOk, sym, subst}
 use Rattle.c_tree.specs.declared.tree.Tree.{Tree}
-use Rattle.c_tree.specs.View.{parts}
+use Rattle.c_tree.specs.View.{items_of}
 use Rattle.c_resolve.specs.declared.routine.Routine.{Routine}
 use Rattle.c_meaning.specs.Answer.{meaning_of}
 use Rattle.c_semantics.specs.Meaning.{meant, run_of}
 use Rattle.c_resolve.specs.Routines.{definitions_of, AreRoutinesOf}
 use Rattle.c_semantics.specs.Run.{Ended}
-use Rattle.c_meaning.specs.Turned.{Turned}
+use Rattle.c_meaning.specs.private.Turned.{Turned}
 use Rattle.c_meaning.proofs.Ending.{ends_by, ok_means}
 use Rattle.c_meaning.proofs.meaning.evaluate.Goals as goal
 
 pub returns : goal.returns
 unfolding meant
 returns c =
-    let text = parts c.tree-tree.result.now in
+    let text = items_of c.tree-tree.result.now in
     let definitions = definitions_of text in
     let input = c.args.input.now in
     let end = run_of text input c.args.steps in
@@ -24,4 +24,4 @@ returns c =
     let begun = c.in_ok-pending.ensures text input c.in_ok-machine.machine c.in_ok-machine.ensures.store c.in_ok-machine.ensures.left c.in_ok-main.ensures in
     let turned = subst (λ (e : Ended (Option ℕ)). Turned definitions text input e p m done) begun (c.until_the_end-done.ensures.turned text are) in
     let means = ok_means c.meant_by.result end p.flow m done c.meant_by.ensures (ends_by definitions text input end p m done turned c.until_the_end-done.ensures.done) in
-    subst (λ (t : Tree). IfOk c.meant_by.result (λ answer. meaning_of answer ≡ meant (parts t) input c.args.steps)) c.tree-tree.ensures.same means
+    subst (λ (t : Tree). IfOk c.meant_by.result (λ answer. meaning_of answer ≡ meant (items_of t) input c.args.steps)) c.tree-tree.ensures.same means

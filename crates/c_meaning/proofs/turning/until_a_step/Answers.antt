@@ -1,27 +1,29 @@
 use Rattle.std.proofs.Common.{◌≡◌, ◌∙◌, ℕ, List, [], ◌∷◌, ◌++◌, Option, Err, refl, sym, ap, reverse, append-nil}
 use Rattle.std.proofs.lemmas.List.{reverse-append}
 use Rattle.std.proofs.lemmas.Result.{err_from_is_err_and}
-use Rattle.c_tree.specs.Syntax.{Part}
+use Rattle.c_tree.specs.Item.{Item}
 use Rattle.c_meaning.specs.declared.machine.Machine.{Machine}
 use Rattle.c_meaning.specs.declared.pending.Pending.{Pending}
 use Rattle.c_meaning.specs.declared.pending.Work.{Work}
-use Rattle.c_meaning.specs.Machine.{store_of}
+use Rattle.c_meaning.specs.private.EvaluatorState.{store_of}
 use Rattle.c_semantics.specs.Names.{Definition}
-use Rattle.c_meaning.specs.Pending.{after}
+use Rattle.c_meaning.specs.private.Pending.{after}
 use Rattle.c_resolve.specs.Routines.{definitions_of}
 use Rattle.c_semantics.specs.Run.{Ended}
-use Rattle.c_meaning.specs.Turned.{all_after}
+use Rattle.c_meaning.specs.private.Turned.{all_after}
 use Rattle.c_meaning.proofs.turning.until_a_step.Goals as goal
 
-module _ (definitions : List Definition) (text : List Part) (input : List ℕ) (p : Pending) (m : Machine) where
+module _ (definitions : List Definition) (text : List Item) (input : List ℕ) (p : Pending) (m : Machine) where
   abbrev working : List Work → Ended (Option ℕ)
   working w = after definitions text input w p.depth p.flow (reverse p.values.items) (store_of m) m.left
 
   -- the last piece of work that is kept is the next one
-  taken : (left : List Work) (w : Work) → p.work.items ≡ left ++ w ∷ [] → all_after definitions text input p m ≡ working (w ∷ reverse left)
+  taken : (left : List Work) (w : Work) → p.work.items ≡ left ++ w ∷ []
+      → all_after definitions text input p m ≡ working (w ∷ reverse left)
   taken left w e = ap working (ap reverse e ∙ reverse-append left (w ∷ []))
 
-  none_taken : (left : List Work) → p.work.items ≡ left ++ [] → all_after definitions text input p m ≡ working (reverse left)
+  none_taken : (left : List Work) → p.work.items ≡ left ++ []
+      → all_after definitions text input p m ≡ working (reverse left)
   none_taken left e = ap (λ w. working (reverse w)) (e ∙ append-nil left)
 
 pub loop-init : goal.loop-init

@@ -6,7 +6,8 @@ use Rattle.c_meaning.proofs.turning.until_the_end.Invariants.{rounds}
 use Rattle.c_meaning.proofs.turning.until_the_end.Goals as goal
 
 -- a round that leaves work takes a step
-fewer_rounds : (old new : List Work) (left fewer : ℕ) → false ≡ (length old == 0) → (new ≡ []) ⊎ (fewer < left) → rounds new fewer < rounds old left
+fewer_rounds : (old new : List Work) (left fewer : ℕ) → false ≡ (length old == 0)
+    → (new ≡ []) ⊎ (fewer < left) → rounds new fewer < rounds old left
 fewer_rounds [] new left fewer some on = absurd (cc some)
 fewer_rounds (w ∷ ws) [] left fewer some on = omega arith
 fewer_rounds (w ∷ ws) (v ∷ vs) left fewer some (inl none) = absurd (cc none)

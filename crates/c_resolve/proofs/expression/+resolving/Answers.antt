@@ -2,64 +2,66 @@ use Rattle.std.proofs.Common.{◌≡◌, ℕ, List, ◌<◌, ◌≤◌, ◌∷�
 use Rattle.std.proofs.Math.Bool.{and_assoc}
 use Rattle.std.proofs.lemmas.Grind.{common_steps}
 use Rattle.std.proofs.lemmas.List.{map-append, map_more, take_all}
-use Rattle.c_tree.specs.declared.tree.Expr.{Expr, size-Expr}
+use Rattle.c_tree.specs.declared.tree.Expr.{Expr as ExprTree, size-Expr}
 use Rattle.c_tree.specs.declared.tree.ExprKind.{ExprKind}
 use Rattle.c_tree.specs.Rules.{is_place}
-use Rattle.c_tree.specs.Syntax.{Expression, Variable, Numeral, Letter, EndOfFile, Prefix, Stepped, Converted, Infix, Choice, Stored, Element, Called, Next}
-use Rattle.c_tree.specs.View.{expression, expressions, of_kind, shape}
-use Rattle.c_tree.proofs.Lists.{cut_at}
-use Rattle.c_tree.proofs.Views as tree
+use Rattle.c_tree.specs.Expr.{Expr}
+use Rattle.c_tree.specs.Expr as expr
+use Rattle.c_tree.specs.View.{expr_of, exprs_of, expr_kind_of, ty_of}
+use Rattle.c_tree.proofs.TreeLists.{cut_at}
+use Rattle.c_tree.proofs.ViewLemmas as tree
 use Rattle.c_types.proofs.Descent.{risen, at_top}
 use Rattle.c_types.specs.declared.spine.Along.TheVariants.{Operands}
 use Rattle.c_semantics.specs.Eval.{call}
 use Rattle.c_resolve.specs.Nodes.{Runs, runs, called, all_values}
 use Rattle.c_resolve.specs.declared.node.NodeKind.TheVariants as k
-use Rattle.c_resolve.specs.Resolved.{names_in, runs_of, IsTypeOf, IsNodeOf}
-use Rattle.c_resolve.proofs.Resolved.{all_made}
-use Rattle.c_resolve.proofs.Over.{AreNodesOf, prefix_over, step_over, cast_over, cast_typed, infix_over, assign_over, index_over, choice_over}
-use Rattle.c_resolve.proofs.Views as node
+use Rattle.c_resolve.specs.private.Resolved.{names_in, runs_of, IsTypeOf, IsNodeOf}
+use Rattle.c_resolve.proofs.ResolvedLemmas.{all_made}
+use Rattle.c_resolve.proofs.Over.{AreNodesOf, unary_over, step_over, cast_over, cast_typed, binary_over, assign_over, index_over, conditional_over}
+use Rattle.c_resolve.proofs.ActionViews as node
 use Rattle.c_resolve.proofs.expression.+resolving.Goals as goal
 
 -- an expression, by its kind
-of : (e : Expr) (kind : ExprKind) (x : Expression) → e.kind ≡ kind → of_kind kind e.place ≡ x → expression e ≡ x
-of e kind x is same = tree.expression_is e ∙ (ap (λ k. of_kind k e.place) is ∙ same)
+of : (e : ExprTree) (kind : ExprKind) (x : Expr) → e.kind ≡ kind → expr_kind_of kind e.place ≡ x
+    → expr_of e ≡ x
+of e kind x is same = tree.expression_is e ∙ (ap (λ k. expr_kind_of k e.place) is ∙ same)
 
-pub above-returns-in-Unary-clause-means : goal.above-returns-in-Unary-clause-means
-above-returns-in-Unary-clause-means t c =
+pub resolve_above-returns-in-Unary-clause-means : goal.resolve_above-returns-in-Unary-clause-means
+resolve_above-returns-in-Unary-clause-means t c =
     let e = c.args.e.now in
     let a = c.in-Unary.a in
-    let here = of e _ (Prefix c.in-Unary.op (expression a.value) e.place) c.in-Unary.is (tree.prefix_is c.in-Unary.op a e.place) in
-    let place : c.is_place.result ≡ is_place (expression a.value) = grind (arith, common_steps) in
-    prefix_over c.args.names.now c.args.first (expression e) c.requires.ty c.requires.means c.in-Unary.op c.is_place.result (expression a.value) e.place here place c.prefix.result c.prefix.ensures.ty c.prefix.ensures.means
+    let here = of e _ (expr.Unary c.in-Unary.op (expr_of a.value) e.place) c.in-Unary.is (tree.unary_is c.in-Unary.op a e.place) in
+    let place : c.is_place.result ≡ is_place (expr_of a.value) = grind (arith, common_steps) in
+    unary_over c.args.names.now c.args.first (expr_of e) c.requires.ty c.requires.means c.in-Unary.op c.is_place.result (expr_of a.value) e.place here place c.build_unary.result c.build_unary.ensures.ty c.build_unary.ensures.means
 
-pub above-returns-in-Step-clause-means : goal.above-returns-in-Step-clause-means
-above-returns-in-Step-clause-means t c =
+pub resolve_above-returns-in-Step-clause-means : goal.resolve_above-returns-in-Step-clause-means
+resolve_above-returns-in-Step-clause-means t c =
     let e = c.args.e.now in
     let a = c.in-Step.a in
-    let here = of e _ (Stepped c.in-Step.how (expression a.value) e.place) c.in-Step.is (tree.stepped_is c.in-Step.how a e.place) in
-    step_over c.args.names.now c.args.first (expression e) c.requires.ty c.requires.means c.in-Step.how (expression a.value) e.place here c.step.result _ c.step.ensures.ty c.step.ensures.means
+    let here = of e _ (expr.Step c.in-Step.how (expr_of a.value) e.place) c.in-Step.is (tree.step_is c.in-Step.how a e.place) in
+    step_over c.args.names.now c.args.first (expr_of e) c.requires.ty c.requires.means c.in-Step.how (expr_of a.value) e.place here c.build_step.result _ c.build_step.ensures.ty c.build_step.ensures.means
 
-pub above-returns-in-Cast-clause-means : goal.above-returns-in-Cast-clause-means
-above-returns-in-Cast-clause-means t c =
+pub resolve_above-returns-in-Cast-clause-means : goal.resolve_above-returns-in-Cast-clause-means
+resolve_above-returns-in-Cast-clause-means t c =
     let e = c.args.e.now in
     let a = c.in-Cast.field-1 in
-    let here = of e _ (Converted (shape c.in-Cast.to) (expression a.value) e.place) c.in-Cast.is (tree.converted_is c.in-Cast.to a e.place) in
-    cast_over c.args.names.now c.args.first (expression e) c.requires.ty c.requires.means (shape c.in-Cast.to) (expression a.value) e.place here c.cast.result _ c.cast.ensures.ty c.cast.ensures.means
+    let here = of e _ (expr.Cast (ty_of c.in-Cast.to) (expr_of a.value) e.place) c.in-Cast.is (tree.cast_is c.in-Cast.to a e.place) in
+    cast_over c.args.names.now c.args.first (expr_of e) c.requires.ty c.requires.means (ty_of c.in-Cast.to) (expr_of a.value) e.place here c.build_cast.result _ c.build_cast.ensures.ty c.build_cast.ensures.means
 
-pub above-returns-in_ok-second-in-Binary-clause-means : goal.above-returns-in_ok-second-in-Binary-clause-means
-above-returns-in_ok-second-in-Binary-clause-means t c =
+pub resolve_above-returns-in_ok-second-in-Binary-clause-means : goal.resolve_above-returns-in_ok-second-in-Binary-clause-means
+resolve_above-returns-in_ok-second-in-Binary-clause-means t c =
     let e = c.args.e.now in
     let names = c.args.names.now in
     let a = c.in-Binary.a in
     let b = c.in-Binary.b in
     let second = c.in_ok-second-in-Binary.second in
-    let here = of e _ (Infix c.in-Binary.op (expression a.value) (expression b.value) e.place) c.in-Binary.is (tree.infix_is c.in-Binary.op a b e.place) in
-    let ty = subst (λ x. IsTypeOf names second.ty (expression x)) c.deref-in-Binary.ensures c.in_ok-second-in-Binary.ensures.ty in
-    let means = subst (λ x. IsNodeOf names second.node (expression x)) c.deref-in-Binary.ensures c.in_ok-second-in-Binary.ensures.means in
-    infix_over names c.args.first (expression e) c.requires.ty c.requires.means second (expression b.value) ty means c.in-Binary.op (expression a.value) e.place here c.infix.result _ c.infix.ensures.ty c.infix.ensures.means
+    let here = of e _ (expr.Binary c.in-Binary.op (expr_of a.value) (expr_of b.value) e.place) c.in-Binary.is (tree.binary_is c.in-Binary.op a b e.place) in
+    let ty = subst (λ x. IsTypeOf names second.ty (expr_of x)) c.deref-in-Binary.ensures c.in_ok-second-in-Binary.ensures.ty in
+    let means = subst (λ x. IsNodeOf names second.node (expr_of x)) c.deref-in-Binary.ensures c.in_ok-second-in-Binary.ensures.means in
+    binary_over names c.args.first (expr_of e) c.requires.ty c.requires.means second (expr_of b.value) ty means c.in-Binary.op (expr_of a.value) e.place here c.build_binary.result _ c.build_binary.ensures.ty c.build_binary.ensures.means
 
-pub above-returns-in_ok-right-in-Conditional-clause-means : goal.above-returns-in_ok-right-in-Conditional-clause-means
-above-returns-in_ok-right-in-Conditional-clause-means t c =
+pub resolve_above-returns-in_ok-right-in-Conditional-clause-means : goal.resolve_above-returns-in_ok-right-in-Conditional-clause-means
+resolve_above-returns-in_ok-right-in-Conditional-clause-means t c =
     let e = c.args.e.now in
     let names = c.args.names.now in
     let test = c.in-Conditional.field-0 in
@@ -67,48 +69,50 @@ above-returns-in_ok-right-in-Conditional-clause-means t c =
     let b = c.in-Conditional.b in
     let left = c.in_ok-left-in-Conditional.left in
     let right = c.in_ok-right-in-Conditional.right in
-    let here = of e _ (Choice (expression test.value) (expression a.value) (expression b.value) e.place) c.in-Conditional.is (tree.choice_is test a b e.place) in
-    let ty = subst (λ x. IsTypeOf names left.ty (expression x)) c.deref-in-Conditional.ensures c.in_ok-left-in-Conditional.ensures.ty in
-    let means = subst (λ x. IsNodeOf names left.node (expression x)) c.deref-in-Conditional.ensures c.in_ok-left-in-Conditional.ensures.means in
-    let last = subst (λ x. IsNodeOf names right.node (expression x)) c.deref-in-Conditional-2.ensures c.in_ok-right-in-Conditional.ensures.means in
-    choice_over names c.args.first (expression e) c.requires.ty c.requires.means left (expression a.value) ty means right (expression b.value) last (expression test.value) e.place here c.choice.result _ c.choice.ensures.ty c.choice.ensures.means
+    let here = of e _ (expr.Conditional (expr_of test.value) (expr_of a.value) (expr_of b.value) e.place) c.in-Conditional.is (tree.conditional_is test a b e.place) in
+    let ty = subst (λ x. IsTypeOf names left.ty (expr_of x)) c.deref-in-Conditional.ensures c.in_ok-left-in-Conditional.ensures.ty in
+    let means = subst (λ x. IsNodeOf names left.node (expr_of x)) c.deref-in-Conditional.ensures c.in_ok-left-in-Conditional.ensures.means in
+    let last = subst (λ x. IsNodeOf names right.node (expr_of x)) c.deref-in-Conditional-2.ensures c.in_ok-right-in-Conditional.ensures.means in
+    conditional_over names c.args.first (expr_of e) c.requires.ty c.requires.means left (expr_of a.value) ty means right (expr_of b.value) last (expr_of test.value) e.place here c.build_conditional.result _ c.build_conditional.ensures.ty c.build_conditional.ensures.means
 
-pub above-returns-in_ok-second-in-Assign-clause-means : goal.above-returns-in_ok-second-in-Assign-clause-means
-above-returns-in_ok-second-in-Assign-clause-means t c =
+pub resolve_above-returns-in_ok-second-in-Assign-clause-means : goal.resolve_above-returns-in_ok-second-in-Assign-clause-means
+resolve_above-returns-in_ok-second-in-Assign-clause-means t c =
     let e = c.args.e.now in
     let names = c.args.names.now in
     let a = c.in-Assign.a in
     let b = c.in-Assign.b in
     let second = c.in_ok-second-in-Assign.second in
-    let here = of e _ (Stored c.in-Assign.how (expression a.value) (expression b.value) e.place) c.in-Assign.is (tree.stored_is c.in-Assign.how a b e.place) in
-    let ty = subst (λ x. IsTypeOf names second.ty (expression x)) c.deref-in-Assign.ensures c.in_ok-second-in-Assign.ensures.ty in
-    let means = subst (λ x. IsNodeOf names second.node (expression x)) c.deref-in-Assign.ensures c.in_ok-second-in-Assign.ensures.means in
-    assign_over names c.args.first (expression e) c.requires.ty c.requires.means second (expression b.value) ty means c.in-Assign.how (expression a.value) e.place here c.assign.result _ c.assign.ensures.ty c.assign.ensures.means
+    let here = of e _ (expr.Assign c.in-Assign.how (expr_of a.value) (expr_of b.value) e.place) c.in-Assign.is (tree.assign_is c.in-Assign.how a b e.place) in
+    let ty = subst (λ x. IsTypeOf names second.ty (expr_of x)) c.deref-in-Assign.ensures c.in_ok-second-in-Assign.ensures.ty in
+    let means = subst (λ x. IsNodeOf names second.node (expr_of x)) c.deref-in-Assign.ensures c.in_ok-second-in-Assign.ensures.means in
+    assign_over names c.args.first (expr_of e) c.requires.ty c.requires.means second (expr_of b.value) ty means c.in-Assign.how (expr_of a.value) e.place here c.build_assign.result _ c.build_assign.ensures.ty c.build_assign.ensures.means
 
-pub above-returns-in_ok-second-in-Index-clause-means : goal.above-returns-in_ok-second-in-Index-clause-means
-above-returns-in_ok-second-in-Index-clause-means t c =
+pub resolve_above-returns-in_ok-second-in-Index-clause-means : goal.resolve_above-returns-in_ok-second-in-Index-clause-means
+resolve_above-returns-in_ok-second-in-Index-clause-means t c =
     let e = c.args.e.now in
     let names = c.args.names.now in
     let a = c.in-Index.field-0 in
     let b = c.in-Index.b in
     let second = c.in_ok-second-in-Index.second in
-    let here = of e _ (Element (expression a.value) (expression b.value) e.place) c.in-Index.is (tree.element_is a b e.place) in
-    let ty = subst (λ x. IsTypeOf names second.ty (expression x)) c.deref-in-Index.ensures c.in_ok-second-in-Index.ensures.ty in
-    let means = subst (λ x. IsNodeOf names second.node (expression x)) c.deref-in-Index.ensures c.in_ok-second-in-Index.ensures.means in
-    index_over names c.args.first (expression e) c.requires.ty c.requires.means second (expression b.value) ty means (expression a.value) e.place here c.index.result c.index.ensures.ty c.index.ensures.means
+    let here = of e _ (expr.Index (expr_of a.value) (expr_of b.value) e.place) c.in-Index.is (tree.index_is a b e.place) in
+    let ty = subst (λ x. IsTypeOf names second.ty (expr_of x)) c.deref-in-Index.ensures c.in_ok-second-in-Index.ensures.ty in
+    let means = subst (λ x. IsNodeOf names second.node (expr_of x)) c.deref-in-Index.ensures c.in_ok-second-in-Index.ensures.means in
+    index_over names c.args.first (expr_of e) c.requires.ty c.requires.means second (expr_of b.value) ty means (expr_of a.value) e.place here c.build_index.result c.build_index.ensures.ty c.build_index.ensures.means
 
-pub above-returns-in-Cast-clause-ty : goal.above-returns-in-Cast-clause-ty
-above-returns-in-Cast-clause-ty t c =
+pub resolve_above-returns-in-Cast-clause-ty : goal.resolve_above-returns-in-Cast-clause-ty
+resolve_above-returns-in-Cast-clause-ty t c =
     let e = c.args.e.now in
     let a = c.in-Cast.field-1 in
-    let here = of e _ (Converted (shape c.in-Cast.to) (expression a.value) e.place) c.in-Cast.is (tree.converted_is c.in-Cast.to a e.place) in
-    cast_typed c.args.names.now c.args.first (expression e) c.requires.ty c.requires.means (shape c.in-Cast.to) (expression a.value) e.place here c.cast.result c.cast.ensures.ty
+    let here = of e _ (expr.Cast (ty_of c.in-Cast.to) (expr_of a.value) e.place) c.in-Cast.is (tree.cast_is c.in-Cast.to a e.place) in
+    cast_typed c.args.names.now c.args.first (expr_of e) c.requires.ty c.requires.means (ty_of c.in-Cast.to) (expr_of a.value) e.place here c.build_cast.result c.build_cast.ensures.ty
 
-cut : (args : List Expr) (i : ℕ) (item : Expr) → i < length args → item ≡ get_or args i item → expressions (drop i args) ≡ Next (expression item) (expressions (drop (i + 1) args))
-cut args i item h e = ap expressions (cut_at args i item h e)
+cut : (args : List ExprTree) (i : ℕ) (item : ExprTree) → i < length args
+    → item ≡ get_or args i item
+    → exprs_of (drop i args) ≡ expr.More (expr_of item) (exprs_of (drop (i + 1) args))
+cut args i item h e = ap exprs_of (cut_at args i item h e)
 
-pub arguments-loop-arg-preserved : goal.arguments-loop-arg-preserved
-arguments-loop-arg-preserved t c =
+pub resolve_arguments-loop-arg-preserved : goal.resolve_arguments-loop-arg-preserved
+resolve_arguments-loop-arg-preserved t c =
     let args = c.args.args.now in
     let i = c.loop-arg.arg-index in
     let item = c.arg-item.result in
@@ -120,7 +124,7 @@ arguments-loop-arg-preserved t c =
           let ty = c.in_ok-value.ensures.ty definitions in
           grind (arith, common_steps, here, before, ty, and_assoc);
       means = λ definitions input calls.
-          let run : Expr → Runs = λ e. runs_of input calls (names_in definitions names) (expression e) in
+          let run : ExprTree → Runs = λ e. runs_of input calls (names_in definitions names) (expr_of e) in
           ap (map (runs definitions input calls)) c.in_ok-push.ensures.items
           ∙ (map-append (runs definitions input calls) c.loop-arg.nodes.items (c.in_ok-value.value.node ∷ [])
           ∙ (ap (λ rs. rs ++ runs definitions input calls c.in_ok-value.value.node ∷ []) (c.loop-arg.invariant.means definitions input calls)
@@ -128,15 +132,15 @@ arguments-loop-arg-preserved t c =
           ∙ sym (map_more run args i item c.loop-arg-test.true))));
     }
 
-pub arguments-returns-clause-means : goal.arguments-returns-clause-means
-arguments-returns-clause-means t c = λ definitions input calls.
+pub resolve_arguments-returns-clause-means : goal.resolve_arguments-returns-clause-means
+resolve_arguments-returns-clause-means t c = λ definitions input calls.
     let args = c.args.args.now in
-    let run : Expr → Runs = λ e. runs_of input calls (names_in definitions c.args.names.now) (expression e) in
+    let run : ExprTree → Runs = λ e. runs_of input calls (names_in definitions c.args.names.now) (expr_of e) in
     ap all_values (c.loop-arg.invariant.means definitions input calls ∙ ap (map run) (take_all c.loop-arg.arg-index args c.loop-arg-test.false))
     ∙ all_made input calls (names_in definitions c.args.names.now) args
 
-pub call-returns-clause-means : goal.call-returns-clause-means
-call-returns-clause-means t c = λ definitions input calls.
+pub resolve_call-returns-clause-means : goal.resolve_call-returns-clause-means
+resolve_call-returns-clause-means t c = λ definitions input calls.
     let at = c.args.at in
     let all = c.in_ok-all.all.nodes in
     let vs = c.in_ok-all.ensures.means definitions input calls in
@@ -144,49 +148,49 @@ call-returns-clause-means t c = λ definitions input calls.
     node.node_is definitions input calls (record { kind = k.Call c.target.result all; place = at })
     ∙ (ap {A = Runs} (λ r. record r { place = at }) (node.call_is definitions input calls c.target.result all at) ∙ (λ i. called (call (vs i) (function i)) at))
 
-pub leaf-returns-in-Name-clause-ty : goal.leaf-returns-in-Name-clause-ty
-leaf-returns-in-Name-clause-ty t c =
+pub resolve_leaf-returns-in-Name-clause-ty : goal.resolve_leaf-returns-in-Name-clause-ty
+resolve_leaf-returns-in-Name-clause-ty t c =
     let e = c.args.e.now in
-    let here = of e _ (Variable c.in-Name.name e.place) c.in-Name.is (tree.variable_is c.in-Name.name e.place) in
-    subst (IsTypeOf c.args.names.now c.named.result.ty) (sym here) c.named.ensures.ty
+    let here = of e _ (expr.Name c.in-Name.name e.place) c.in-Name.is (tree.name_is c.in-Name.name e.place) in
+    subst (IsTypeOf c.args.names.now c.resolve_name.result.ty) (sym here) c.resolve_name.ensures.ty
 
-pub leaf-returns-in-Name-clause-means : goal.leaf-returns-in-Name-clause-means
-leaf-returns-in-Name-clause-means t c =
+pub resolve_leaf-returns-in-Name-clause-means : goal.resolve_leaf-returns-in-Name-clause-means
+resolve_leaf-returns-in-Name-clause-means t c =
     let e = c.args.e.now in
-    let here = of e _ (Variable c.in-Name.name e.place) c.in-Name.is (tree.variable_is c.in-Name.name e.place) in
-    subst (IsNodeOf c.args.names.now c.named.result.node) (sym here) c.named.ensures.means
+    let here = of e _ (expr.Name c.in-Name.name e.place) c.in-Name.is (tree.name_is c.in-Name.name e.place) in
+    subst (IsNodeOf c.args.names.now c.resolve_name.result.node) (sym here) c.resolve_name.ensures.means
 
-pub leaf-returns-in-Number-clause-means : goal.leaf-returns-in-Number-clause-means
-leaf-returns-in-Number-clause-means t c =
+pub resolve_leaf-returns-in-Number-clause-means : goal.resolve_leaf-returns-in-Number-clause-means
+resolve_leaf-returns-in-Number-clause-means t c =
     let e = c.args.e.now in
-    let here = of e _ (Numeral (shape c.in-Number.ty) c.in-Number.value e.place) c.in-Number.is (tree.numeral_is c.in-Number.ty c.in-Number.value e.place) in
-    subst (IsNodeOf c.args.names.now c.constant.result.node) (sym here) c.constant.ensures.means
+    let here = of e _ (expr.Number (ty_of c.in-Number.ty) c.in-Number.value e.place) c.in-Number.is (tree.number_is c.in-Number.ty c.in-Number.value e.place) in
+    subst (IsNodeOf c.args.names.now c.build_constant.result.node) (sym here) c.build_constant.ensures.means
 
-pub leaf-returns-in-Character-clause-means : goal.leaf-returns-in-Character-clause-means
-leaf-returns-in-Character-clause-means t c =
+pub resolve_leaf-returns-in-Character-clause-means : goal.resolve_leaf-returns-in-Character-clause-means
+resolve_leaf-returns-in-Character-clause-means t c =
     let e = c.args.e.now in
-    let here = of e _ (Letter c.in-Character.code e.place) c.in-Character.is (tree.letter_is c.in-Character.code e.place) in
-    subst (IsNodeOf c.args.names.now c.constant-in-Character.result.node) (sym here) c.constant-in-Character.ensures.means
+    let here = of e _ (expr.Character c.in-Character.code e.place) c.in-Character.is (tree.character_is c.in-Character.code e.place) in
+    subst (IsNodeOf c.args.names.now c.build_constant-in-Character.result.node) (sym here) c.build_constant-in-Character.ensures.means
 
-pub leaf-returns-in-Eof-clause-means : goal.leaf-returns-in-Eof-clause-means
-leaf-returns-in-Eof-clause-means t c =
+pub resolve_leaf-returns-in-Eof-clause-means : goal.resolve_leaf-returns-in-Eof-clause-means
+resolve_leaf-returns-in-Eof-clause-means t c =
     let e = c.args.e.now in
-    let here = of e _ (EndOfFile e.place) c.in-Eof.is (tree.end_of_file_is e.place) in
-    subst (IsNodeOf c.args.names.now c.constant-in-Eof.result.node) (sym here) c.constant-in-Eof.ensures.means
+    let here = of e _ (expr.Eof e.place) c.in-Eof.is (tree.eof_is e.place) in
+    subst (IsNodeOf c.args.names.now c.build_constant-in-Eof.result.node) (sym here) c.build_constant-in-Eof.ensures.means
 
-pub leaf-returns-in-Call-clause-means : goal.leaf-returns-in-Call-clause-means
-leaf-returns-in-Call-clause-means t c =
+pub resolve_leaf-returns-in-Call-clause-means : goal.resolve_leaf-returns-in-Call-clause-means
+resolve_leaf-returns-in-Call-clause-means t c =
     let e = c.args.e.now in
     let callee = c.in-Call.callee in
     let args = c.in-Call.args in
-    let here = of e _ (Called callee (expressions args.items) e.place) c.in-Call.is (tree.called_is callee args e.place) in
-    let same : Called callee (expressions c.as_slice.result.now) e.place ≡ expression e = ap (λ es. Called callee (expressions es) e.place) c.as_slice.ensures.value ∙ sym here in
-    subst (AreNodesOf c.args.names.now c.call.result) same c.call.ensures.means
+    let here = of e _ (expr.Call callee (exprs_of args.items) e.place) c.in-Call.is (tree.call_is callee args e.place) in
+    let same : expr.Call callee (exprs_of c.as_slice.result.now) e.place ≡ expr_of e = ap (λ es. expr.Call callee (exprs_of es) e.place) c.as_slice.ensures.value ∙ sym here in
+    subst (AreNodesOf c.args.names.now c.resolve_call.result) same c.resolve_call.ensures.means
 
-pub rise-above-requires : goal.rise-above-requires
-rise-above-requires t c =
+pub rise-resolve_above-requires : goal.rise-resolve_above-requires
+rise-resolve_above-requires t c =
     let small : size-Expr c.descend-node.result.now ≤ size-Expr c.args.e.now = c.descend-node.ensures.small in
-    let here = risen Operands c.loop-left.left (expression c.args.e.now) (expression c.descend-node.result.now) c.loop-left-test.true c.descend-node.ensures.reaches in
+    let here = risen Operands c.loop-left.left (expr_of c.args.e.now) (expr_of c.descend-node.result.now) c.loop-left-test.true c.descend-node.ensures.reaches in
     let ty = subst (IsTypeOf c.args.names.now c.loop-left.typed.ty) (sym here) c.loop-left.invariant.ty in
     let means = subst (IsNodeOf c.args.names.now c.loop-left.typed.node) (sym here) c.loop-left.invariant.means in
     (grind (arith, common_steps, small), (ty, (λ h. c.loop-left.invariant.flat (ap is_place (sym here) ∙ h), means)))
@@ -202,15 +206,15 @@ rise-loop-left-preserved t c =
 
 pub rise-returns-clause-ty : goal.rise-returns-clause-ty
 rise-returns-clause-ty t c =
-    let top = at_top Operands c.loop-left.left (expression c.args.e.now) c.loop-left-test.false in
+    let top = at_top Operands c.loop-left.left (expr_of c.args.e.now) c.loop-left-test.false in
     subst (IsTypeOf c.args.names.now c.loop-left.typed.ty) top c.loop-left.invariant.ty
 
 pub rise-returns-clause-flat : goal.rise-returns-clause-flat
 rise-returns-clause-flat t c =
-    let top = at_top Operands c.loop-left.left (expression c.args.e.now) c.loop-left-test.false in
+    let top = at_top Operands c.loop-left.left (expr_of c.args.e.now) c.loop-left-test.false in
     λ h. c.loop-left.invariant.flat (ap is_place top ∙ h)
 
 pub rise-returns-clause-means : goal.rise-returns-clause-means
 rise-returns-clause-means t c =
-    let top = at_top Operands c.loop-left.left (expression c.args.e.now) c.loop-left-test.false in
+    let top = at_top Operands c.loop-left.left (expr_of c.args.e.now) c.loop-left-test.false in
     subst (IsNodeOf c.args.names.now c.loop-left.typed.node) top c.loop-left.invariant.means

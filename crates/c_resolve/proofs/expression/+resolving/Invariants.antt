@@ -2,7 +2,7 @@ use Rattle.std.proofs.Common.{◌≡◌, ℕ, List, true, map, take, drop, ◌+�
 use Rattle.c_tree.specs.declared.tree.Expr.{size-Expr}
 use Rattle.c_tree.specs.Rules.{is_place}
 use Rattle.c_tree.specs.Typing.{type_at, all_taken}
-use Rattle.c_tree.specs.View.{expression, expressions}
+use Rattle.c_tree.specs.View.{expr_of, exprs_of}
 use Rattle.c_types.specs.Call.{parameters}
 use Rattle.c_types.specs.Seen.{seen_some, is_flat}
 use Rattle.c_types.specs.Spine.{down}
@@ -10,20 +10,30 @@ use Rattle.c_types.specs.declared.spine.Along.TheVariants.{Operands}
 use Rattle.c_semantics.specs.Eval.{Calls}
 use Rattle.c_semantics.specs.Names.{Definition, types}
 use Rattle.c_resolve.specs.Nodes.{runs}
-use Rattle.c_resolve.specs.Resolved.{names_in, runs_of}
+use Rattle.c_resolve.specs.private.Resolved.{names_in, runs_of}
 use Rattle.c_resolve.proofs.expression.+resolving.Given as goal
 
-abbrev pub invariant-arguments-loop-arg : goal.invariant-arguments-loop-arg
-invariant-arguments-loop-arg l = record {
-  taken : (definitions : List Definition) → l.passed.typed && all_taken (types (names_in definitions l.names)) (parameters l.rest) (expressions (drop l.arg-index l.args)) ≡ all_taken (types (names_in definitions l.names)) (parameters l.taken) (expressions l.args);
-  means : (definitions : List Definition) (input : List ℕ) (calls : Calls) → map (runs definitions input calls) l.nodes.items ≡ map (λ e. runs_of input calls (names_in definitions l.names) (expression e)) (take l.arg-index l.args);
+abbrev pub invariant-resolve_arguments-loop-arg : goal.invariant-resolve_arguments-loop-arg
+invariant-resolve_arguments-loop-arg l = record {
+  taken : (definitions : List Definition)
+      → l.passed.typed && all_taken (types (names_in definitions l.names)) (parameters l.rest)
+      (exprs_of (drop l.arg-index l.args))
+      ≡ all_taken (types (names_in definitions l.names)) (parameters l.taken) (exprs_of l.args);
+  means : (definitions : List Definition) (input : List ℕ) (calls : Calls)
+      → map (runs definitions input calls) l.nodes.items
+      ≡ map (λ e. runs_of input calls (names_in definitions l.names) (expr_of e))
+      (take l.arg-index l.args);
 }
 
 abbrev pub invariant-rise-loop-left : goal.invariant-rise-loop-left
 invariant-rise-loop-left l = record {
-  ty : (definitions : List Definition) → seen_some l.typed.ty ≡ type_at (types (names_in definitions l.names)) (down Operands l.left (expression l.e));
-  flat : is_place (down Operands l.left (expression l.e)) ≡ true → is_flat l.typed.ty ≡ true;
-  means : (definitions : List Definition) (input : List ℕ) (calls : Calls) → runs definitions input calls l.typed.node ≡ runs_of input calls (names_in definitions l.names) (down Operands l.left (expression l.e));
+  ty : (definitions : List Definition)
+      → seen_some l.typed.ty ≡ type_at (types (names_in definitions l.names))
+      (down Operands l.left (expr_of l.e));
+  flat : is_place (down Operands l.left (expr_of l.e)) ≡ true → is_flat l.typed.ty ≡ true;
+  means : (definitions : List Definition) (input : List ℕ) (calls : Calls)
+      → runs definitions input calls l.typed.node
+      ≡ runs_of input calls (names_in definitions l.names) (down Operands l.left (expr_of l.e));
 }
 
 abbrev pub decreases-rise-loop-left : goal.decreases-rise-loop-left
@@ -35,14 +45,14 @@ decreases-resolve l = 4 * size-Expr l.e.now + 2
 abbrev pub decreases-rise : goal.decreases-rise
 decreases-rise l = 4 * size-Expr l.e.now + 1
 
-abbrev pub decreases-above : goal.decreases-above
-decreases-above l = 4 * size-Expr l.e.now
+abbrev pub decreases-resolve_above : goal.decreases-resolve_above
+decreases-resolve_above l = 4 * size-Expr l.e.now
 
-abbrev pub decreases-leaf : goal.decreases-leaf
-decreases-leaf l = 4 * size-Expr l.e.now
+abbrev pub decreases-resolve_leaf : goal.decreases-resolve_leaf
+decreases-resolve_leaf l = 4 * size-Expr l.e.now
 
-abbrev pub decreases-call : goal.decreases-call
-decreases-call l = 4 * goal.size-call l + 4
+abbrev pub decreases-resolve_call : goal.decreases-resolve_call
+decreases-resolve_call l = 4 * goal.size-resolve_call l + 4
 
-abbrev pub decreases-arguments : goal.decreases-arguments
-decreases-arguments l = 4 * goal.size-arguments l + 3
+abbrev pub decreases-resolve_arguments : goal.decreases-resolve_arguments
+decreases-resolve_arguments l = 4 * goal.size-resolve_arguments l + 3

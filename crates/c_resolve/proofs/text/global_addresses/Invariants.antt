@@ -1,5 +1,5 @@
 use Rattle.std.proofs.Common.{◌≡◌, take}
-use Rattle.c_layout.specs.Outcome.{plan_of}
+use Rattle.c_layout.specs.LayoutAnswers.{plan_of}
 use Rattle.c_resolve.proofs.text.global_addresses.Given as goal
 
 abbrev pub invariant-loop-item : goal.invariant-loop-item

@@ -1,10 +1,10 @@
 use Rattle.std.proofs.Common.{◌≡◌, ℕ, ◌+◌, ◌<◌, List, [], ◌∷◌, ◌++◌, length, get_or, map, drop, refl, ap, sym, subst, ◌∙◌, append_assoc}
 use Rattle.std.proofs.lemmas.List.{drop-drop, drop_at, length-map, map-append}
-use Rattle.c_tree.proofs.Lists.{cut_at}
+use Rattle.c_tree.proofs.TreeLists.{cut_at}
 use Rattle.c_tree.specs.declared.tree.Item.{Item}
-use Rattle.c_tree.specs.View.{part, parts}
+use Rattle.c_tree.specs.View.{item_of, items_of}
 use Rattle.c_layout.specs.Laid.{Plan}
-use Rattle.c_layout.specs.Outcome.{plan_of}
+use Rattle.c_layout.specs.LayoutAnswers.{plan_of}
 use Rattle.c_resolve.specs.declared.routine.Routine.{Routine}
 use Rattle.c_resolve.specs.Actions.{routine_run}
 use Rattle.c_resolve.specs.Entries.{with_entries}
@@ -14,15 +14,16 @@ use Rattle.c_resolve.proofs.Numbering.{definitions_cons, frames_are}
 use Rattle.c_resolve.proofs.text.resolve_text.Goals as goal
 
 -- the definitions of an item and of those behind it
-cut : (items all : List Item) (i : ℕ) (item : Item) → items ≡ all → i < length items → item ≡ get_or items i item
-    → definitions_of (map part (drop i all)) ≡ definitions_of (map part (item ∷ [])) ++ definitions_of (map part (drop (i + 1) all))
+cut : (items all : List Item) (i : ℕ) (item : Item) → items ≡ all → i < length items
+    → item ≡ get_or items i item
+    → definitions_of (map item_of (drop i all)) ≡ definitions_of (map item_of (item ∷ [])) ++ definitions_of (map item_of (drop (i + 1) all))
 cut items all i item same h e =
-    let Cut : List Item → Type 0 = λ is. definitions_of (map part (drop i is)) ≡ definitions_of (map part (item ∷ [])) ++ definitions_of (map part (drop (i + 1) is)) in
-    subst Cut same (ap (λ (is : List Item). definitions_of (map part is)) (cut_at items i item h e) ∙ definitions_cons (part item) (map part (drop (i + 1) items)))
+    let Cut : List Item → Type 0 = λ is. definitions_of (map item_of (drop i is)) ≡ definitions_of (map item_of (item ∷ [])) ++ definitions_of (map item_of (drop (i + 1) is)) in
+    subst Cut same (ap (λ (is : List Item). definitions_of (map item_of is)) (cut_at items i item h e) ∙ definitions_cons (item_of item) (map item_of (drop (i + 1) items)))
 
 pub loop-item-init : goal.loop-item-init
 loop-item-init c =
-    let text = parts c.args.tree.now in
+    let text = items_of c.args.tree.now in
     let fs = (plan_of c.args.layout.now).frames in
     let empty = c.new-out.ensures.items in
     record {
@@ -36,21 +37,21 @@ push_item-requires c =
     let items = c.args.tree.now.items.items in
     let i = c.loop-item.item-index in
     let item = c.item-item.result in
-    let one = definitions_of (map part (item ∷ [])) in
-    let later = definitions_of (map part (drop (i + 1) items)) in
+    let one = definitions_of (map item_of (item ∷ [])) in
+    let later = definitions_of (map item_of (drop (i + 1) items)) in
     let here = cut c.deref-item-items.result.now items i item c.deref-item-items.ensures.value c.loop-item-test.true c.item-item.is in
     (map definition_frame later, c.loop-item.invariant.frames ∙ (ap (map definition_frame) here ∙ map-append definition_frame one later))
 
 pub loop-item-preserved : goal.loop-item-preserved
 loop-item-preserved c =
-    let text = parts c.args.tree.now in
+    let text = items_of c.args.tree.now in
     let fs = (plan_of c.args.layout.now).frames in
     let items = c.args.tree.now.items.items in
     let i = c.loop-item.item-index in
     let item = c.item-item.result in
     let out = c.loop-item.out.items in
-    let one = definitions_of (map part (item ∷ [])) in
-    let later = definitions_of (map part (drop (i + 1) items)) in
+    let one = definitions_of (map item_of (item ∷ [])) in
+    let later = definitions_of (map item_of (drop (i + 1) items)) in
     let here = cut c.deref-item-items.result.now items i item c.deref-item-items.ensures.value c.loop-item-test.true c.item-item.is in
     let next = c.loop-item.invariant.frames ∙ (ap (map definition_frame) here ∙ map-append definition_frame one later) in
     record {

@@ -1,6 +1,6 @@
 use Rattle.std.proofs.Common.{arith}
 use Rattle.std.proofs.lemmas.Grind.{common_steps}
-use Rattle.c_semantics.proofs.Written.{blank_more, blank_all}
+use Rattle.c_semantics.proofs.WrittenMemory.{blank_more, blank_all}
 use Rattle.c_semantics.proofs.bytes.blank.Goals as goal
 
 pub loop-offset-preserved : goal.loop-offset-preserved

@@ -1,6 +1,6 @@
 use Rattle.std.proofs.Common.{◌<◌, length, arith}
 use Rattle.std.proofs.lemmas.Grind.{common_steps}
-use Rattle.c_semantics.proofs.Written.{with_bytes_more, with_bytes_all}
+use Rattle.c_semantics.proofs.WrittenMemory.{with_bytes_more, with_bytes_all}
 use Rattle.c_semantics.proofs.bytes.fill.Goals as goal
 
 pub loop-offset-preserved : goal.loop-offset-preserved

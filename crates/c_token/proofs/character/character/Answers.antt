@@ -1,7 +1,7 @@
 use Rattle.std.proofs.Common.{arith, sym, ⊎_elim, ◌∙◌, ap, ◌≡◌}
 use Rattle.std.proofs.lemmas.Bool.{cases_eq}
 use Rattle.c_token.proofs.CharacterTokens.{in_some, none_in}
-use Rattle.c_token.specs.Quotes.{character_in}
+use Rattle.c_token.specs.private.Quotes.{character_in}
 use Rattle.c_token.proofs.character.character.Goals as goal
 
 pub returns-in-Some : goal.returns-in-Some

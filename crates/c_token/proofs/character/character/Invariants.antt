@@ -1,5 +1,5 @@
 use Rattle.std.proofs.Common.{◌≡◌, ℕ, ◌<◌, ◌≤◌, None}
-use Rattle.c_token.specs.Quotes.{character_in}
+use Rattle.c_token.specs.private.Quotes.{character_in}
 use Rattle.c_token.proofs.character.character.Given as goal
 
 abbrev pub invariant-loop-len : goal.invariant-loop-len

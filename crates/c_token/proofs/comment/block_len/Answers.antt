@@ -1,6 +1,6 @@
 use Rattle.std.proofs.Common.{arith, sym, ◌+◌, ◌-◌, ◌≡◌, ◌++◌, ◌∷◌, [], take, subst, ℕ, false}
-use Rattle.c_token.proofs.Comments.{no_close, no_close_front}
-use Rattle.c_token.proofs.Lists.{take_two}
+use Rattle.c_token.proofs.CommentsLemmas.{no_close, no_close_front}
+use Rattle.c_token.proofs.TokenLists.{take_two}
 use Rattle.c_token.specs.Comments.{has_close}
 use Rattle.c_token.proofs.comment.block_len.Goals as goal
 

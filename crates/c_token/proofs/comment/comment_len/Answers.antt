@@ -1,7 +1,7 @@
 use Rattle.std.proofs.Common.{subst, ◌≡◌, false}
-use Rattle.c_token.proofs.Comments.{block_found, block_open, line_found}
-use Rattle.c_token.specs.Lines.{IsClosed}
-use Rattle.c_token.proofs.Lists.{back}
+use Rattle.c_token.proofs.CommentsLemmas.{block_found, block_open, line_found}
+use Rattle.c_token.specs.private.Lines.{IsClosed}
+use Rattle.c_token.proofs.TokenLists.{back}
 use Rattle.c_token.specs.Comments.{has_close}
 use Rattle.c_token.proofs.comment.comment_len.Goals as goal
 

@@ -1,7 +1,7 @@
 use Rattle.std.proofs.Common.{◌∙◌, ap}
 use Rattle.c_token.proofs.DirectiveLines.{include_line, include_only, include_fails, define_line, define_line_only, define_fails, no_form}
 use Rattle.c_token.proofs.Includes.{behind_blanks}
-use Rattle.c_token.proofs.Lists.{back}
+use Rattle.c_token.proofs.TokenLists.{back}
 use Rattle.c_token.proofs.directive.directive_of.Goals as goal
 
 pub returns-then-is_include : goal.returns-then-is_include

@@ -1,5 +1,5 @@
 use Rattle.std.proofs.Common.{sym, ◌∙◌}
-use Rattle.c_token.proofs.Constants.{number_at, number_none, same_test, typed_at}
+use Rattle.c_token.proofs.ConstantTokens.{number_at, number_none, same_test, typed_at}
 use Rattle.c_token.proofs.number.number_of.Goals as goal
 
 pub returns-then-are_digits : goal.returns-then-are_digits

@@ -1,5 +1,5 @@
 use Rattle.std.proofs.Common.{arith, length-drop}
-use Rattle.c_token.proofs.Lists.{no_length}
+use Rattle.c_token.proofs.TokenLists.{no_length}
 use Rattle.c_token.specs.Directives.IsTail.{end}
 use Rattle.c_token.proofs.tail.is_tail.Goals as goal
 

@@ -1,11 +1,11 @@
 use Rattle.std.proofs.Common.{◌≡◌, ◌≤◌}
 use Rattle.c_tree.specs.declared.tree.Expr.{size-Expr}
-use Rattle.c_tree.specs.View.{expression}
+use Rattle.c_tree.specs.View.{expr_of}
 use Rattle.c_types.specs.Spine.{down}
 use Rattle.c_types.proofs.spine.descend.Given as goal
 
 abbrev pub invariant-loop-step : goal.invariant-loop-step
 invariant-loop-step l = record {
-  reaches : expression l.end ≡ down l.along l._step (expression l.e);
+  reaches : expr_of l.end ≡ down l.along l._step (expr_of l.e);
   small : size-Expr l.end ≤ size-Expr l.e;
 }

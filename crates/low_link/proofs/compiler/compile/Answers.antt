@@ -1,7 +1,7 @@
 use Rattle.std.proofs.Common.{◌≡◌, Err, length-append, sym, ◌∙◌, ap, arith}
 use Rattle.std.proofs.lemmas.Result.{err_from_is_err_and}
 use Rattle.low_link.specs.declared.refused.Refused.TheVariants.{NotYetBuilt}
-use Rattle.low_link.proofs.Codes.{length-puts_code}
+use Rattle.low_link.proofs.FormCodes.{length-puts_code}
 use Rattle.low_link.proofs.compiler.compile.Goals as goal
 
 pub returns-in_err-form-clause-refused : goal.returns-in_err-form-clause-refused

@@ -1,5 +1,5 @@
 use Rattle.std.proofs.Common.{sym, ◌∙◌, arith}
-use Rattle.low_link.proofs.Constants.{digits-utf8, no_text, same_text, parsed}
+use Rattle.low_link.proofs.FormValues.{digits-utf8, no_text, same_text, parsed}
 use Rattle.low_link.proofs.form.read_constant.Goals as goal
 
 pub returns-in_err-text : goal.returns-in_err-text

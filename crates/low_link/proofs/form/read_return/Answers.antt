@@ -1,4 +1,4 @@
-use Rattle.low_link.proofs.Ends.{read_between}
+use Rattle.low_link.proofs.FormEnds.{read_between}
 use Rattle.low_link.proofs.form.read_return.Goals as goal
 
 pub returns : goal.returns

@@ -1,4 +1,4 @@
-use Rattle.low_link.proofs.Fronts.{one_tree, one_refusal, accepted_or_refused}
+use Rattle.low_link.proofs.FormFronts.{one_tree, one_refusal, accepted_or_refused}
 use Rattle.low_link.proofs.laws.one_answer_of_a_text.Goals as goal
 
 pub returns : goal.returns

@@ -1,7 +1,7 @@
 use Rattle.std.proofs.Common.{◌≡◌, true, ap, ◌∙◌, arith, ◌||◌}
 use Rattle.std.proofs.lemmas.Grind.{common_steps}
 use Rattle.std.specs.Prelude.{bytes_eq}
-use Rattle.c_check.specs.Defined.{has}
+use Rattle.c_check.specs.private.Defined.{has}
 use Rattle.c_check.proofs.DefinedNames.{updates_names, cond_or}
 use Rattle.c_check.proofs.defined.Defined.add.Goals as goal
 

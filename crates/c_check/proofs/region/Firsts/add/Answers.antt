@@ -1,5 +1,5 @@
 use Rattle.std.proofs.lemmas.Result.{on_ok_weaker}
-use Rattle.c_check.proofs.Regions.{more_begins, more_ends}
+use Rattle.c_check.proofs.RegionLemmas.{more_begins, more_ends}
 use Rattle.c_check.proofs.region.Firsts.add.Goals as goal
 
 pub returns-then-edge : goal.returns-then-edge

@@ -3,8 +3,8 @@ use Rattle.std.proofs.lemmas.List.{drop_all}
 use Rattle.c_semantics.specs.declared.kind.Held.TheVariants.{Byte}
 use Rattle.c_resolve.specs.declared.routine.Parameter.{Parameter}
 use Rattle.c_resolve.specs.Actions.{arguments_run}
-use Rattle.c_meaning.specs.Called.{passing_one}
-use Rattle.c_meaning.specs.Machine.{store_of, Halts}
+use Rattle.c_meaning.specs.private.Called.{passing_one}
+use Rattle.c_meaning.specs.private.EvaluatorState.{store_of, Halts}
 use Rattle.c_semantics.specs.Run.{Run, Ended, then_run}
 use Rattle.c_meaning.proofs.Arguments.{arguments_at, arguments_none}
 use Rattle.c_meaning.proofs.Halting.{halts_then}

@@ -1,7 +1,7 @@
 use Rattle.std.proofs.Common.{◌≡◌, ℕ, List, drop}
 use Rattle.c_resolve.specs.Actions.{arguments_run}
 use Rattle.c_semantics.specs.Eval.{Calls}
-use Rattle.c_meaning.specs.Machine.{store_of}
+use Rattle.c_meaning.specs.private.EvaluatorState.{store_of}
 use Rattle.c_semantics.specs.Names.{Definition}
 use Rattle.c_meaning.proofs.machine.Machine.pass_all.Given as goal
 

@@ -3,7 +3,7 @@ use Rattle.std.proofs.lemmas.Grind.{common_steps}
 use Rattle.c_resolve.specs.declared.named.Entry.{Entry}
 use Rattle.c_resolve.specs.Entries.{named, no_lasts, lasts_from, indexed_at, with_entries, AreHidden, IsIndexOf}
 use Rattle.c_semantics.specs.Names.{no_names, with_name}
-use Rattle.c_resolve.proofs.Entries.{with_entries_push, hidden_push, index_push}
+use Rattle.c_resolve.proofs.EntriesLemmas.{with_entries_push, hidden_push, index_push}
 use Rattle.c_resolve.proofs.names.Names.declare.Goals as goal
 
 pub invariant_of-self-in-Ok-1 : goal.invariant_of-self-in-Ok-1

@@ -3,7 +3,7 @@ use Rattle.std.specs.Option.{option_map, option_copied}
 use Rattle.std.proofs.lemmas.Grind.{common_steps}
 use Rattle.c_resolve.specs.declared.named.Entry.{Entry}
 use Rattle.c_resolve.specs.Entries.{named, indexed_at}
-use Rattle.c_resolve.proofs.Entries.{found}
+use Rattle.c_resolve.proofs.EntriesLemmas.{found}
 use Rattle.c_resolve.proofs.names.Names.find.Goals as goal
 
 pub returns-in_err-number : goal.returns-in_err-number

@@ -5,7 +5,7 @@ use Rattle.std.specs.Cmp.Lexicographic.{slice_cmp}
 use Rattle.std.specs.Ordering.{nat_cmp}
 use Rattle.c_types.proofs.Keys.{vec_cmp}
 use Rattle.c_resolve.specs.Entries.{no_lasts, indexed_at, AreHidden, IsIndexOf}
-use Rattle.c_resolve.proofs.Entries.{hidden_pop, index_pop, index_has}
+use Rattle.c_resolve.proofs.EntriesLemmas.{hidden_pop, index_pop, index_has}
 use Rattle.c_resolve.proofs.names.Names.forget.Goals as goal
 
 pub invariant_of-self-in-None : goal.invariant_of-self-in-None

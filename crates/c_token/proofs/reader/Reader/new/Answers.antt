@@ -3,7 +3,7 @@ use Rattle.std.specs.BTreeMap.{is_at}
 use Rattle.std.specs.Map.{lookup}
 use Rattle.std.specs.Cmp.Lexicographic.{slice_cmp}
 use Rattle.c_token.specs.Pieces.{nothing_defined}
-use Rattle.c_token.specs.Readers.{names_of}
+use Rattle.c_token.specs.private.Readers.{names_of}
 use Rattle.c_token.specs.Spots.{beginning}
 use Rattle.c_token.specs.Text.IsReadTo.{start}
 use Rattle.c_token.proofs.reader.Reader.new.Goals as goal

@@ -1,6 +1,6 @@
 use Rattle.std.proofs.Common.{refl, Some, None}
 use Rattle.c_token.proofs.Definitions.{names_defined, directive_piece, is_new}
-use Rattle.c_token.proofs.Steps.{skipped, step_from}
+use Rattle.c_token.proofs.ReadingSteps.{skipped, step_from}
 use Rattle.c_token.proofs.Stuck.{again_stops, none_stops}
 use Rattle.c_token.specs.Pieces.Found.{found_name}
 use Rattle.c_token.proofs.reader.Reader.read_line.Goals as goal

@@ -1,6 +1,6 @@
 use Rattle.std.proofs.Common.{arith, sym, ◌∙◌}
-use Rattle.c_token.proofs.Lists.{take_one}
-use Rattle.c_token.proofs.Steps.{skipped}
+use Rattle.c_token.proofs.TokenLists.{take_one}
+use Rattle.c_token.proofs.ReadingSteps.{skipped}
 use Rattle.c_token.proofs.Stuck.{comment_stops}
 use Rattle.c_token.specs.Pieces.IsPiece.{separator, comment}
 use Rattle.c_token.proofs.reader.Reader.read_piece.Goals as goal

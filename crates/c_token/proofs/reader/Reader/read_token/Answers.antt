@@ -1,8 +1,8 @@
 use Rattle.std.proofs.Common.{sym, refl, subst}
-use Rattle.c_token.proofs.Steps.{step_from, token_piece}
+use Rattle.c_token.proofs.ReadingSteps.{step_from, token_piece}
 use Rattle.c_token.proofs.Stuck.{token_stops}
 use Rattle.c_token.specs.Pieces.Found.{found_token}
-use Rattle.c_token.specs.Readers.{StopsFor, names_of}
+use Rattle.c_token.specs.private.Readers.{StopsFor, names_of}
 use Rattle.c_token.proofs.reader.Reader.read_token.Goals as goal
 
 pub returns-in-Err : goal.returns-in-Err

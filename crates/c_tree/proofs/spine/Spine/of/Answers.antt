@@ -1,15 +1,15 @@
 use Rattle.std.proofs.Common.{All, ap, sym, ◌∙◌, subst, arith}
 use Rattle.std.proofs.lemmas.List.Elements.{All-push}
 use Rattle.std.proofs.lemmas.Grind.{common_steps}
-use Rattle.c_tree.specs.View.{expression}
-use Rattle.c_tree.specs.FirstOperand.{within}
-use Rattle.c_tree.proofs.FirstOperand.{seen, within-push, IsWithin}
+use Rattle.c_tree.specs.View.{expr_of}
+use Rattle.c_tree.specs.private.FirstOperand.{within}
+use Rattle.c_tree.proofs.FirstOperandLemmas.{seen, within-push, IsWithin}
 use Rattle.c_tree.proofs.spine.Spine.of.Goals as goal
 
 pub loop-first-preserved : goal.loop-first-preserved
 loop-first-preserved c =
     let old = c.loop-first.above.items in
-    let first = expression c.in-Some.first.now in
+    let first = expr_of c.in-Some.first.now in
     let pushed = ap (λ es. within (seen es) first) c.in_ok-push.ensures.items in
     let put = within-push old c.loop-first.end first in
     record {

@@ -1,6 +1,6 @@
 use Rattle.std.proofs.Common.{arith}
 use Rattle.std.proofs.lemmas.Grind.{common_steps}
-use Rattle.c_types.proofs.Frames.{frame_bound}
+use Rattle.c_types.proofs.ScopeFrames.{frame_bound}
 use Rattle.c_types.proofs.block.Block.insert.Goals as goal
 
 pub returns-clause-bound : goal.returns-clause-bound

@@ -1,4 +1,4 @@
-use Rattle.c_types.proofs.Frames.{frame_unbound}
+use Rattle.c_types.proofs.ScopeFrames.{frame_unbound}
 use Rattle.c_types.proofs.block.Block.remove.Goals as goal
 
 pub returns : goal.returns

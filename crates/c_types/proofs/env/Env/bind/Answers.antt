@@ -2,9 +2,9 @@ use Rattle.std.proofs.Common.{◌≡◌, [], ◌∷◌, ◌++◌, ◌+◌, lengt
 use Rattle.std.proofs.lemmas.Grind.{common_steps}
 use Rattle.c_tree.specs.Scope.{Frame}
 use Rattle.c_types.specs.Block.{known, frame_of, frames_of}
-use Rattle.c_types.specs.Index.{number_if, declaring}
+use Rattle.c_types.specs.private.Index.{number_if, declaring}
 use Rattle.c_types.proofs.Declaring.{declared_again, declared_newly, taken_back}
-use Rattle.c_types.proofs.Frames.{had}
+use Rattle.c_types.proofs.ScopeFrames.{had}
 use Rattle.c_types.proofs.env.Env.bind.Goals as goal
 
 pub invariant_of-self-then-is_some : goal.invariant_of-self-then-is_some

@@ -1,7 +1,7 @@
 use Rattle.std.proofs.Common.{◌≡◌, [], ◌∷◌, ◌++◌, sym, ap, ◌∙◌}
 use Rattle.std.proofs.lemmas.List.{map-append}
 use Rattle.c_types.specs.Block.{frame_of, frames_of}
-use Rattle.c_types.specs.Index.{declaring}
+use Rattle.c_types.specs.private.Index.{declaring}
 use Rattle.c_types.proofs.Declaring.{opened}
 use Rattle.c_types.proofs.env.Env.enter.Goals as goal
 

@@ -6,7 +6,8 @@ use Rattle.c_types.specs.declared.block.Block.{Block}
 use Rattle.c_types.proofs.Declaring.{found_none, found_some, look_all, frame_at}
 use Rattle.c_types.proofs.env.Env.find.Goals as goal
 
-unwrapped : (o : Option (Bor Block)) (d : Bor Block) → (unwrap_or o d).now ≡ unwrap_or (option_map (λ x. x.now) o) d.now
+unwrapped : (o : Option (Bor Block)) (d : Bor Block)
+    → (unwrap_or o d).now ≡ unwrap_or (option_map (λ x. x.now) o) d.now
 unwrapped (Some x) d = refl
 unwrapped None d = refl
 

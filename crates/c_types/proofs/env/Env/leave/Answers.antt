@@ -2,7 +2,7 @@ use Rattle.std.proofs.Common.{◌≡◌, [], ◌∷◌, ◌++◌, is_some, arith
 use Rattle.std.proofs.lemmas.Grind.{common_steps}
 use Rattle.std.proofs.lemmas.List.{map-append}
 use Rattle.c_types.specs.Block.{frame_of, frames_of}
-use Rattle.c_types.specs.Index.{without_last_if, declaring}
+use Rattle.c_types.specs.private.Index.{without_last_if, declaring}
 use Rattle.c_types.proofs.Declaring.{closed}
 use Rattle.c_types.proofs.env.Env.leave.Goals as goal
 

@@ -1,7 +1,7 @@
 use Rattle.std.proofs.Common.{◌∷◌, ◌++◌, [], sym, ap, ◌∙◌}
 use Rattle.c_tree.specs.Scope.{Frame}
 use Rattle.c_types.specs.Block.{frame_of, frames_of}
-use Rattle.c_types.specs.Index.{declaring}
+use Rattle.c_types.specs.private.Index.{declaring}
 use Rattle.c_types.proofs.env.Env.new.Goals as goal
 
 pub invariant_of-result : goal.invariant_of-result

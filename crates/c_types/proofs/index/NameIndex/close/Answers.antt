@@ -2,7 +2,7 @@ use Rattle.std.proofs.Common.{◌≡◌, ◌∷◌, bytes_eq, ◌∙◌, sym, ap
 use Rattle.std.specs.BTreeMap.{keys}
 use Rattle.std.specs.List.Sorted.{IsStrictlySortedBy}
 use Rattle.std.proofs.lemmas.Map.Keys.{sorted_tail}
-use Rattle.c_types.specs.Index.{numbers_of, without_last_if}
+use Rattle.c_types.specs.private.Index.{numbers_of, without_last_if}
 use Rattle.c_types.proofs.Closing.{is_key, declares_keys, one_closed}
 use Rattle.c_types.proofs.Keys.{vec_cmp}
 use Rattle.c_types.proofs.index.NameIndex.close.Goals as goal

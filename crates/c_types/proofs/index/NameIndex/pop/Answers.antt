@@ -1,8 +1,8 @@
 use Rattle.std.proofs.Common.{◌≡◌, [], None, Some, refl, arith, rules, ◌∙◌, sym, ap}
 use Rattle.std.specs.Option.{option_copied_mut}
 use Rattle.std.proofs.lemmas.Grind.{common_steps}
-use Rattle.c_types.specs.Index.{without_last_if}
-use Rattle.c_types.proofs.Numbers.{numbers_changed, items_of, at}
+use Rattle.c_types.specs.private.Index.{without_last_if}
+use Rattle.c_types.proofs.IndexNumbers.{numbers_changed, items_of, at}
 use Rattle.c_types.proofs.index.NameIndex.pop.Goals as goal
 
 pub returns-then-is_empty : goal.returns-then-is_empty

@@ -4,8 +4,8 @@ use Rattle.std.specs.Option.{option_copied_mut}
 use Rattle.std.proofs.lemmas.Grind.{common_steps}
 use Rattle.std.proofs.lemmas.List.{append-nil}
 use Rattle.std.proofs.lemmas.Result.{err_from_is_err_and}
-use Rattle.c_types.specs.Index.{number_if}
-use Rattle.c_types.proofs.Numbers.{numbers_changed, items_of, at}
+use Rattle.c_types.specs.private.Index.{number_if}
+use Rattle.c_types.proofs.IndexNumbers.{numbers_changed, items_of, at}
 use Rattle.c_types.proofs.index.NameIndex.push.Goals as goal
 
 pub returns-in_err-push-clause-refused : goal.returns-in_err-push-clause-refused

@@ -1,0 +1,9 @@
+use Rattle.std.proofs.Common.{◌≡◌, ◌-◌, map}
+use Rattle.c_tree.specs.View as view
+use Rattle.c_expr.specs.private.ExpressionReading.{turns}
+use Rattle.c_decl.specs.private.DeclarationReading as read
+use Rattle.c_decl.proofs.declarator.parse_more_vars.Given as goal
+
+abbrev pub invariant-loop : goal.invariant-loop
+invariant-loop l =
+    read.more_declarators (view.ty_of l.base) (view.var_of l.fn.first) l.room l.whole.tokens.now ≡ turns (read.declarator_turn (view.ty_of l.base) l.room) (l.end - l.counter) (map view.var_of l.found.items) l.rest.tokens.now

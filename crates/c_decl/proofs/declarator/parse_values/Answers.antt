@@ -1,0 +1,27 @@
+use Rattle.std.proofs.Common.{rules, arith, map}
+use Rattle.std.proofs.lemmas.Grind.{common_steps}
+use Rattle.c_tree.specs.View as view
+use Rattle.c_expr.specs.private.ExpressionReading.{turns}
+use Rattle.c_decl.specs.private.DeclarationReading as read
+use Rattle.c_expr.proofs.Opens.{one_more}
+use Rattle.c_decl.proofs.declarator.parse_values.Goals as goal
+
+pub returns-in_err-value : goal.returns-in_err-value
+returns-in_err-value c =
+    let e = one_more (λ n. turns (read.value_turn c.args.room) n (map view.expr_of c.loop.found.items) c.loop.rest.tokens.now) _ c.loop.counter c.loop-test.true c.loop.invariant in
+    first_of (search rules, grind (arith, common_steps))
+
+pub returns-in_err-ended : goal.returns-in_err-ended
+returns-in_err-ended c =
+    let e = one_more (λ n. turns (read.value_turn c.args.room) n (map view.expr_of c.loop.found.items) c.loop.rest.tokens.now) _ c.loop.counter c.loop-test.true c.loop.invariant in
+    first_of (search rules, grind (arith, common_steps))
+
+pub returns-then-ended : goal.returns-then-ended
+returns-then-ended c =
+    let e = one_more (λ n. turns (read.value_turn c.args.room) n (map view.expr_of c.loop.found.items) c.loop.rest.tokens.now) _ c.loop.counter c.loop-test.true c.loop.invariant in
+    first_of (search rules, grind (arith, common_steps))
+
+pub loop-preserved : goal.loop-preserved
+loop-preserved c =
+    let e = one_more (λ n. turns (read.value_turn c.args.room) n (map view.expr_of c.loop.found.items) c.loop.rest.tokens.now) _ c.loop.counter c.loop-test.true c.loop.invariant in
+    first_of (search rules, grind (arith, common_steps))

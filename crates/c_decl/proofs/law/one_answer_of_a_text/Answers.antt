@@ -1,5 +1,0 @@
-use Rattle.c_decl.proofs.Once.{one_answer}
-use Rattle.c_decl.proofs.law.one_answer_of_a_text.Goals as goal
-
-pub returns : goal.returns
-returns c = one_answer

@@ -1,0 +1,24 @@
+use Rattle.std.proofs.Common.{◌∙◌, ℕ, List, ◌∷◌, [], ◌++◌, Option, sym, ap, reverse, length, refl}
+use Rattle.std.proofs.lemmas.List.{reverse-append}
+use Rattle.c_tree.specs.declared.undefined.Undefined.TheVariants.{NoValue}
+use Rattle.c_semantics.specs.declared.flow.Flow.TheVariants.{Normal}
+use Rattle.c_meaning.specs.declared.pending.Edge.TheVariants as edge
+use Rattle.c_meaning.specs.declared.pending.Task.TheVariants as task
+use Rattle.c_meaning.specs.declared.pending.Work.{Work}
+use Rattle.c_meaning.specs.declared.pending.Work.TheVariants as work
+use Rattle.c_semantics.specs.Meaning.{calls_at}
+use Rattle.c_resolve.specs.Nodes.{call_of}
+use Rattle.c_meaning.specs.private.Pending.{after, with_value}
+use Rattle.c_semantics.specs.Run.{Run, given_or}
+use Rattle.c_meaning.proofs.Arguments.{called_then}
+use Rattle.c_semantics.proofs.RunLemmas.{assoc}
+use Rattle.c_meaning.proofs.evaluating.plan_used_call.Goals as goal
+
+pub returns : goal.returns
+returns c = λ definitions text input depth vs.
+    let w = reverse c.args.work.now.items in
+    let planned : List Work = work.Task (task.Values c.args.all) ∷ work.Task (task.Call c.args.target (length c.args.all.now)) ∷ [] in
+    let used : Option ℕ → Run ℕ = given_or NoValue c.args.at in
+    assoc (call_of definitions input (calls_at text input depth) c.args.target c.args.all.now) used (with_value (after definitions text input w depth) vs)
+    ∙ called_then definitions text input depth c.args.target c.args.all.now (length c.args.all.now) (after definitions text input (work.Edge (edge.Use c.args.at) ∷ w) depth) vs refl
+    ∙ sym (ap (λ l. after definitions text input l depth Normal vs) (c.in_ok-plan.ensures ∙ ap (λ l. planned ++ l) (ap reverse c.in_ok-push.ensures.items ∙ reverse-append c.args.work.now.items (work.Edge (edge.Use c.args.at) ∷ []))))

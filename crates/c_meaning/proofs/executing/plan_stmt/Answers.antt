@@ -1,0 +1,38 @@
+use Rattle.std.proofs.Common.{◌∙◌, ap, subst, Some, None}
+use Rattle.c_resolve.specs.Actions.{action_run, if_run, block_run, optional_run, value_run}
+use Rattle.c_meaning.specs.private.Turned.{PlansFlow}
+use Rattle.c_meaning.proofs.Planned.{plans_flow}
+use Rattle.c_resolve.proofs.ActionViews.{block_is, if_is, if_else_is}
+use Rattle.c_meaning.proofs.executing.plan_stmt.Goals as goal
+
+pub returns-in_ok-plan_block-in-Block : goal.returns-in_ok-plan_block-in-Block
+returns-in_ok-plan_block-in-Block c =
+    let e = c.in-Block in
+    let old = c.args.work.now.items in
+    let new = c.plan_block.new.work.items in
+    let first = subst (λ ls. PlansFlow (λ definitions input calls. block_run definitions input calls ls c.deref-in-Block-2.result.now) old new) c.deref-in-Block.ensures.value c.in_ok-plan_block-in-Block.ensures in
+    let both = subst (λ body. PlansFlow (λ definitions input calls. block_run definitions input calls e.locals.items body) old new) c.deref-in-Block-2.ensures.value first in
+    plans_flow c.args.action.now (λ definitions input calls. block_run definitions input calls e.locals.items e.body.items)
+    (λ definitions input calls. ap (action_run definitions input calls) e.is ∙ block_is definitions input calls e.locals e.body)
+    old new both
+
+pub returns-in_ok-plan_if-in-If : goal.returns-in_ok-plan_if-in-If
+returns-in_ok-plan_if-in-If c =
+    let e = c.in-If in
+    let old = c.args.work.now.items in
+    let new = c.plan_if.new.work.items in
+    let body = subst (λ a. PlansFlow (λ definitions input calls. if_run (value_run definitions input calls e.test) (action_run definitions input calls a) (optional_run definitions input calls None)) old new) c.deref-in-If.ensures c.in_ok-plan_if-in-If.ensures in
+    plans_flow c.args.action.now (λ definitions input calls. if_run (value_run definitions input calls e.test) (action_run definitions input calls e.body.value) (optional_run definitions input calls None))
+    (λ definitions input calls. ap (action_run definitions input calls) e.is ∙ if_is definitions input calls e.test e.body)
+    old new body
+
+pub returns-in_ok-plan_if-in-IfElse : goal.returns-in_ok-plan_if-in-IfElse
+returns-in_ok-plan_if-in-IfElse c =
+    let e = c.in-IfElse in
+    let old = c.args.work.now.items in
+    let new = c.plan_if-in-IfElse.new.work.items in
+    let body = subst (λ a. PlansFlow (λ definitions input calls. if_run (value_run definitions input calls e.test) (action_run definitions input calls a) (optional_run definitions input calls (Some c.deref-in-IfElse-2.result.now))) old new) c.deref-in-IfElse.ensures c.in_ok-plan_if-in-IfElse.ensures in
+    let both = subst (λ a. PlansFlow (λ definitions input calls. if_run (value_run definitions input calls e.test) (action_run definitions input calls e.body.value) (optional_run definitions input calls (Some a))) old new) c.deref-in-IfElse-2.ensures body in
+    plans_flow c.args.action.now (λ definitions input calls. if_run (value_run definitions input calls e.test) (action_run definitions input calls e.body.value) (optional_run definitions input calls (Some e.other.value)))
+    (λ definitions input calls. ap (action_run definitions input calls) e.is ∙ if_else_is definitions input calls e.test e.body e.other)
+    old new both

@@ -1,5 +1,0 @@
-use Rattle.c_semantics.proofs.ErasedMeaning.{same_meaning}
-use Rattle.c_semantics.proofs.law.markers_mean_nothing.Goals as goal
-
-pub returns : goal.returns
-returns c = same_meaning

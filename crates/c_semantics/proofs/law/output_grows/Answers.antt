@@ -1,5 +1,0 @@
-use Rattle.c_semantics.proofs.Later.{meaning_grows}
-use Rattle.c_semantics.proofs.law.output_grows.Goals as goal
-
-pub returns : goal.returns
-returns c = meaning_grows

@@ -1,5 +1,0 @@
-use Rattle.c_tree.proofs.ErasedBreaches.{erased_accepted}
-use Rattle.c_tree.proofs.law.erased_tree_is_accepted.Goals as goal
-
-pub returns : goal.returns
-returns c = erased_accepted
