@@ -1,4 +1,5 @@
-// The program: the real ends, the top call, and the process's status.
+//! The program: the real ends, the top call, and the process's status.
+
 #![tactic(auto)]
 
 mod words;

@@ -1,10 +1,11 @@
-// The words of the command line.
+//! The words of the command line.
+
 use bop_top::Status;
 use std::env::{self, FillError};
 use std::io::ErrorKind;
 use std::rt::Env;
 
-// The environment without the program's name, which is the first of its words.
+/// The environment without the program's name, which is the first of its words.
 #[derive(Drop)]
 struct Nameless<'a, R: Env> {
     rt: &'a R,

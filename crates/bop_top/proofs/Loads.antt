@@ -10,10 +10,10 @@ use Rattle.c_tree.proofs.Acceptance.{faultless}
 use Rattle.c_layout.specs.declared.layout.Layout.{Layout}
 use Rattle.low_link.specs.Front as front_of
 use Rattle.low_link.specs.Front.{Refuses, IsAccepted}
-use Rattle.bop_top.specs.declared.status.Status.{Status}
-use Rattle.bop_top.specs.declared.status.Status.TheVariants as status
+use Rattle.bop_top.specs.declared.outcome.Outcome.{Outcome}
+use Rattle.bop_top.specs.declared.outcome.Outcome.TheVariants as outcome
 use Rattle.bop_top.specs.declared.top.TheConstants.{TEXT_BYTES}
-use Rattle.bop_top.specs.Headline.{SeqSays, SeqTransfers, CheckSays, CheckTransfers, MeanSays, MeanTransfers, IsFine, IsTooLong, IsUnloaded, count_told, refused_status}
+use Rattle.bop_top.specs.Headline.{SeqSays, SeqTransfers, CheckSays, CheckTransfers, MeanSays, MeanTransfers, IsFine, IsTooLong, IsUnloaded, count_told, refused_outcome}
 
 -- fewer bytes than were asked for are the whole file
 pub whole_file : (file : Option (List ℕ)) (most : ℕ) (text : List ℕ) → IsFront file most text
@@ -31,55 +31,55 @@ longer_file (Some bytes) most text front long =
     (bytes, refl, omega (arith, length-take most bytes, ap length front))
 
 module _ (told : Type 0) (file : Option (List ℕ)) where
-  pub unloaded_seq : (s : Status) → IsUnloaded s told file → told → SeqSays s file []
-  unloaded_seq status.LoadFault h here = tt
-  unloaded_seq status.OutOfMemory h here = tt
-  unloaded_seq status.ProgramTooLong h here = h here
+  pub unloaded_seq : (o : Outcome) → IsUnloaded o told file → told → SeqSays o file []
+  unloaded_seq outcome.LoadFault h here = tt
+  unloaded_seq outcome.OutOfMemory h here = tt
+  unloaded_seq outcome.ProgramTooLong h here = h here
   unloaded_seq _ h here = absurd h
 
-  pub unloaded_check : (s : Status) → IsUnloaded s told file → told → CheckSays s file
-  unloaded_check status.LoadFault h here = tt
-  unloaded_check status.OutOfMemory h here = tt
-  unloaded_check status.ProgramTooLong h here = h here
+  pub unloaded_check : (o : Outcome) → IsUnloaded o told file → told → CheckSays o file
+  unloaded_check outcome.LoadFault h here = tt
+  unloaded_check outcome.OutOfMemory h here = tt
+  unloaded_check outcome.ProgramTooLong h here = h here
   unloaded_check _ h here = absurd h
 
-  pub unloaded_mean : (steps : ℕ) (s : Status) → IsUnloaded s told file → told
-      → MeanSays steps s file [] []
-  unloaded_mean steps status.LoadFault h here = tt
-  unloaded_mean steps status.OutOfMemory h here = tt
-  unloaded_mean steps status.ProgramTooLong h here = h here
+  pub unloaded_mean : (steps : ℕ) (o : Outcome) → IsUnloaded o told file → told
+      → MeanSays steps o file [] []
+  unloaded_mean steps outcome.LoadFault h here = tt
+  unloaded_mean steps outcome.OutOfMemory h here = tt
+  unloaded_mean steps outcome.ProgramTooLong h here = h here
   unloaded_mean steps _ h here = absurd h
 
   -- nothing is written then
-  pub seq_stands : (s : Status) → IsUnloaded s told file → SeqTransfers s []
-  seq_stands status.LoadFault h = refl
-  seq_stands status.OutOfMemory h = refl
-  seq_stands status.ProgramTooLong h = refl
+  pub seq_stands : (o : Outcome) → IsUnloaded o told file → SeqTransfers o []
+  seq_stands outcome.LoadFault h = refl
+  seq_stands outcome.OutOfMemory h = refl
+  seq_stands outcome.ProgramTooLong h = refl
   seq_stands _ h = absurd h
 
-  pub check_stands : (s : Status) → IsUnloaded s told file → CheckTransfers s []
-  check_stands status.LoadFault h = refl
-  check_stands status.OutOfMemory h = refl
-  check_stands status.ProgramTooLong h = refl
+  pub check_stands : (o : Outcome) → IsUnloaded o told file → CheckTransfers o []
+  check_stands outcome.LoadFault h = refl
+  check_stands outcome.OutOfMemory h = refl
+  check_stands outcome.ProgramTooLong h = refl
   check_stands _ h = absurd h
 
   -- nor anything taken
-  pub mean_stands : (left : Option (List ℕ)) (s : Status) → IsUnloaded s told file
-      → MeanTransfers s [] left []
-  mean_stands left status.LoadFault h = (refl, refl)
-  mean_stands left status.OutOfMemory h = refl
-  mean_stands left status.ProgramTooLong h = (refl, refl)
+  pub mean_stands : (left : Option (List ℕ)) (o : Outcome) → IsUnloaded o told file
+      → MeanTransfers o [] left []
+  mean_stands left outcome.LoadFault h = (refl, refl)
+  mean_stands left outcome.OutOfMemory h = refl
+  mean_stands left outcome.ProgramTooLong h = (refl, refl)
   mean_stands left _ h = absurd h
 
   -- and no bytes are told
-  pub unloaded_untold : (s : Status) → IsUnloaded s told file → None ≡ count_told s 0
-  unloaded_untold status.LoadFault h = refl
-  unloaded_untold status.OutOfMemory h = refl
-  unloaded_untold status.ProgramTooLong h = refl
+  pub unloaded_untold : (o : Outcome) → IsUnloaded o told file → None ≡ count_told o 0
+  unloaded_untold outcome.LoadFault h = refl
+  unloaded_untold outcome.OutOfMemory h = refl
+  unloaded_untold outcome.ProgramTooLong h = refl
   unloaded_untold _ h = absurd h
 
 pub refused_says : (text : List ℕ) (refused : Refused) → length text ≤ TEXT_BYTES
-    → Refuses text refused → CheckSays (refused_status refused) (Some text)
+    → Refuses text refused → CheckSays (refused_outcome refused) (Some text)
 refused_says text (r.Token fault) fits h = (text, refl, fits, h)
 refused_says text (r.Parse fault) fits h = (text, refl, fits, h)
 refused_says text (r.Check fault) fits h = (text, refl, fits, h)
@@ -88,7 +88,7 @@ refused_says text r.NotYetBuilt fits h = absurd h
 refused_says text r.OutOfMemory fits h = tt
 
 pub refused_stands : (text : List ℕ) (refused : Refused) → Refuses text refused
-    → CheckTransfers (refused_status refused) []
+    → CheckTransfers (refused_outcome refused) []
 refused_stands text (r.Token fault) h = (tt, refl)
 refused_stands text (r.Parse fault) h = (tt, refl)
 refused_stands text (r.Check fault) h = (tt, refl)
@@ -105,5 +105,5 @@ pub fine_of : (text : List ℕ) (checked : Checked) (laid : Layout)
 fine_of text checked laid h = (items_of checked.tree, accepted_of text checked laid h, h.fits)
 
 pub fine_says : (text : List ℕ) (checked : Checked) (laid : Layout) → length text ≤ TEXT_BYTES
-    → front_of.IsFront text checked laid → CheckSays status.Fine (Some text)
+    → front_of.IsFront text checked laid → CheckSays outcome.Fine (Some text)
 fine_says text checked laid fits h = (text, refl, fits, fine_of text checked laid h)

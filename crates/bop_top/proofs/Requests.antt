@@ -1,6 +1,6 @@
 -- Words ask for one thing at most.
 use Rattle.std.proofs.Common.{◌≡◌, ℕ, List, [], ◌∷◌, drop, get_or, sym, ◌∙◌, ap, ap₂, subst, arith}
-use Rattle.bop_top.specs.CommandWords.{Request, Seq, Check, Mean, IsRequest, HasBudget, AsksMean, AsksNothing}
+use Rattle.bop_top.specs.CommandWords.{Request, Seq, Check, Mean, IsRequest, HasBudget}
 
 -- the first letter of the first word
 abbrev initial : List (List ℕ) → ℕ
@@ -26,20 +26,3 @@ one_request words (Seq a) (Mean b n) h k = let e : 115 ≡ 109 = ap initial (sym
 one_request words (Mean a m) (Seq b) h k = let e : 109 ≡ 115 = ap initial (sym h.1 ∙ k.0) in absurd (omega (arith, e))
 one_request words (Check a) (Mean b n) h k = let e : 99 ≡ 109 = ap initial (sym h.0 ∙ k.1) in absurd (omega (arith, e))
 one_request words (Mean a m) (Check b) h k = let e : 109 ≡ 99 = ap initial (sym h.1 ∙ k.0) in absurd (omega (arith, e))
-
--- what holds of what the words ask for holds of each request that they make
-pub of_each : (words : List (List ℕ)) (asked : Request) → IsRequest words asked
-    → (P : Request → Type 0)
-    → P asked → (request : Request) → IsRequest words request → P request
-of_each words asked here P p request h = subst P (one_request words asked request here h) p
-
-pub no_meaning : (words : List (List ℕ)) → AsksNothing words → AsksMean words → ⊥
-no_meaning words none (name, steps, asked) = none (Mean name steps) asked
-
-pub seq_asks_no_meaning : (words : List (List ℕ)) (program : List ℕ)
-    → IsRequest words (Seq program) → AsksMean words → ⊥
-seq_asks_no_meaning words program h (name, steps, asked) = let e : Seq program ≡ Mean name steps = one_request words (Seq program) (Mean name steps) h asked in cc e
-
-pub check_asks_no_meaning : (words : List (List ℕ)) (program : List ℕ)
-    → IsRequest words (Check program) → AsksMean words → ⊥
-check_asks_no_meaning words program h (name, steps, asked) = let e : Check program ≡ Mean name steps = one_request words (Check program) (Mean name steps) h asked in cc e

@@ -60,3 +60,8 @@ AsksNothing words = (request : Request) → IsRequest words request → ⊥
 -- they ask for the meaning of a program
 abbrev pub AsksMean : List (List ℕ) → Type 0
 AsksMean words = (name : List ℕ) × (budget : ℕ) × IsRequest words (Mean name budget)
+
+-- a request is for a meaning
+abbrev pub IsMean : Request → Type 0
+IsMean (Mean name budget) = Unit {0}
+IsMean _ = ⊥

@@ -1,5 +1,5 @@
--- What the top call promises: a row for each status.
-use Rattle.std.specs.Prelude.{◌≡◌, ◌≤◌, ◌<◌, length, ℕ, ℤ, Bool, IsTrue, List, [], Option, Some, None, ⊤}
+-- What the top call promises: a row for each outcome of a command.
+use Rattle.std.specs.Prelude.{◌≡◌, ◌≤◌, ◌<◌, ◌⊎◌, length, ℕ, ℤ, Bool, IsTrue, List, [], Option, Some, None, ⊤}
 use Rattle.std.specs.Io.KnownBytes.{Appends, Consumes, IsAtEnd}
 use Rattle.byte_lists.specs.Prefix.{IsPrefix}
 use Rattle.bop_ends.specs.Ends.{Rose}
@@ -18,12 +18,17 @@ use Rattle.low_link.specs.Refused.{IsRejection}
 use Rattle.low_link.specs.Code.{IsProgramOf}
 use Rattle.low_link.specs.declared.refused.Refused.{Refused}
 use Rattle.low_link.specs.declared.refused.Refused.TheVariants as refused
+use Rattle.bop_top.specs.declared.outcome.Outcome.{Outcome}
+use Rattle.bop_top.specs.declared.outcome.Outcome.TheVariants.{Done, Fine, LoadFault, ProgramTooLong, Rejected, ReadFault, InputTooLong, StackFull, Undefined, MoreSteps, WriteFault, OutOfMemory, NotYetBuilt}
+use Rattle.bop_top.specs.declared.status.End.{End}
+use Rattle.bop_top.specs.declared.status.End.TheVariants as end
 use Rattle.bop_top.specs.declared.status.Status.{Status}
-use Rattle.bop_top.specs.declared.status.Status.TheVariants.{Done, Fine, BadWords, LoadFault, ProgramTooLong, Rejected, ReadFault, InputTooLong, StackFull, Undefined, MoreSteps, WriteFault, ReportFault, OutOfMemory, NotYetBuilt}
+use Rattle.bop_top.specs.declared.status.Status.TheVariants.{BadWords}
 use Rattle.bop_top.specs.declared.input.TheConstants.{INPUT_BYTES}
 use Rattle.bop_top.specs.declared.top.TheConstants.{BUDGET, TEXT_BYTES}
 use Rattle.bop_top.specs.Report.{Reported}
-use Rattle.bop_top.specs.CommandWords.{Request, Seq, Check, Mean, IsRequest, AsksMean, AsksNothing, name_of}
+use Rattle.bop_top.specs.CommandWords.{Request, Seq, Check, Mean, IsRequest, AsksNothing, name_of}
+use Rattle.bop_top.specs.Statuses.{row_of, status_of}
 
 -- there is a file, it is no longer than a text may be, and P holds of it
 abbrev pub OfText : Option (List ℕ) → (List ℕ → Type 0) → Type 0
@@ -46,9 +51,9 @@ pub record Exited (m : Machine) (exit : ℤ) (written : List ℕ) : Type 0 where
 abbrev pub IsNotBuilt : List ℕ → Type 0
 IsNotBuilt text = (characters : List ℕ) (exit : ℤ) → IsForm text characters exit → ⊥
 
--- what the status of a sequential run says of the program's file, where these bytes were written;
--- a status without a row says nothing of it
-abbrev pub SeqSays : Status → Option (List ℕ) → List ℕ → Type 0
+-- what the outcome of a sequential run says of the program's file, where these bytes were written;
+-- an outcome without a row says nothing of it
+abbrev pub SeqSays : Outcome → Option (List ℕ) → List ℕ → Type 0
 SeqSays (Done exit) file written =
     OfText file (λ text. Ran text (λ m. Exited m exit written) × IsForm text written exit)
 SeqSays WriteFault file written =
@@ -57,9 +62,9 @@ SeqSays NotYetBuilt file written = OfText file IsNotBuilt
 SeqSays ProgramTooLong file written = IsTooLong file
 SeqSays _ file written = ⊤
 
--- what the status of a sequential run says of the bytes written, whatever the file; a status
+-- what the outcome of a sequential run says of the bytes written, whatever the file; an outcome
 -- without a row never comes
-abbrev pub SeqTransfers : Status → List ℕ → Type 0
+abbrev pub SeqTransfers : Outcome → List ℕ → Type 0
 SeqTransfers (Done exit) written = ⊤
 SeqTransfers WriteFault written = ⊤
 SeqTransfers NotYetBuilt written = written ≡ []
@@ -72,16 +77,17 @@ SeqTransfers _ written = ⊥
 abbrev pub IsFine : List ℕ → Type 0
 IsFine text = (ps : List Item) × IsAccepted text ps × Fits ps
 
--- what the status of a check says of the program's file; a status without a row says nothing of it
-abbrev pub CheckSays : Status → Option (List ℕ) → Type 0
+-- what the outcome of a check says of the program's file; an outcome without a row says nothing
+-- of it
+abbrev pub CheckSays : Outcome → Option (List ℕ) → Type 0
 CheckSays Fine file = OfText file IsFine
 CheckSays (Rejected refused) file = OfText file (λ text. Refuses text refused)
 CheckSays ProgramTooLong file = IsTooLong file
 CheckSays _ file = ⊤
 
--- what the status of a check says of the bytes written, whatever the file: there are none; a status
--- without a row never comes
-abbrev pub CheckTransfers : Status → List ℕ → Type 0
+-- what the outcome of a check says of the bytes written, whatever the file: there are none; an
+-- outcome without a row never comes
+abbrev pub CheckTransfers : Outcome → List ℕ → Type 0
 CheckTransfers Fine written = written ≡ []
 CheckTransfers (Rejected refused) written = IsRejection refused × (written ≡ [])
 CheckTransfers ProgramTooLong written = written ≡ []
@@ -103,8 +109,8 @@ pub record IsInput (taken : List ℕ) (left : Option (List ℕ)) : Type 0 where
 abbrev pub Meant : ℕ → Option (List ℕ) → List ℕ → (Meaning → Type 0) → Type 0
 Meant steps file input P = OfText file (λ text. Means text input steps P)
 
--- what the status says of a meaning whose output was to be written, and of the bytes written
-abbrev pub Puts : Status → List ℕ → Meaning → Type 0
+-- what the outcome says of a meaning whose output was to be written, and of the bytes written
+abbrev pub Puts : Outcome → List ℕ → Meaning → Type 0
 Puts (Done exit) written m = m ≡ meaning.Done written exit
 Puts StackFull written m = m ≡ meaning.StackFull' written
 Puts (Undefined act at) written m = m ≡ meaning.Undefined' written act at
@@ -112,9 +118,9 @@ Puts MoreSteps written m = m ≡ meaning.More' written
 Puts WriteFault written m = IsPrefix written (told.output_of m)
 Puts _ written m = ⊥
 
--- what the status of a meaning says of the program's file, where these bytes were taken and written;
--- a status without a row says nothing of it
-abbrev pub MeanSays : ℕ → Status → Option (List ℕ) → List ℕ → List ℕ → Type 0
+-- what the outcome of a meaning says of the program's file, where these bytes were taken and
+-- written; an outcome without a row says nothing of it
+abbrev pub MeanSays : ℕ → Outcome → Option (List ℕ) → List ℕ → List ℕ → Type 0
 MeanSays steps (Done exit) file taken written = Meant steps file taken (Puts (Done exit) written)
 MeanSays steps StackFull file taken written = Meant steps file taken (Puts StackFull written)
 MeanSays steps (Undefined act at) file taken written =
@@ -127,9 +133,9 @@ MeanSays steps (Rejected refused) file taken written = OfText file (λ text. Ref
 MeanSays steps ProgramTooLong file taken written = IsTooLong file
 MeanSays steps _ file taken written = ⊤
 
--- what the status of a meaning says of the bytes taken, of what is left of the input and of the
--- bytes written, whatever the file; a status without a row never comes
-abbrev pub MeanTransfers : Status → List ℕ → Option (List ℕ) → List ℕ → Type 0
+-- what the outcome of a meaning says of the bytes taken, of what is left of the input and of the
+-- bytes written, whatever the file; an outcome without a row never comes
+abbrev pub MeanTransfers : Outcome → List ℕ → Option (List ℕ) → List ℕ → Type 0
 MeanTransfers (Done exit) taken left written = IsInput taken left
 MeanTransfers StackFull taken left written = IsInput taken left
 MeanTransfers (Undefined act at) taken left written = IsInput taken left
@@ -144,18 +150,18 @@ MeanTransfers ProgramTooLong taken left written = (taken ≡ []) × (written ≡
 MeanTransfers LoadFault taken left written = (taken ≡ []) × (written ≡ [])
 MeanTransfers _ taken left written = ⊥
 
--- what the status with which a command has ended says of the program's file
-abbrev pub Says : Request → Status → Option (List ℕ) → List ℕ → List ℕ → Type 0
-Says (Seq name) status file taken written = SeqSays status file written
-Says (Check name) status file taken written = CheckSays status file
-Says (Mean name steps) status file taken written = MeanSays steps status file taken written
+-- what the outcome of a command says of the program's file
+abbrev pub Says : Request → Outcome → Option (List ℕ) → List ℕ → List ℕ → Type 0
+Says (Seq name) outcome file taken written = SeqSays outcome file written
+Says (Check name) outcome file taken written = CheckSays outcome file
+Says (Mean name steps) outcome file taken written = MeanSays steps outcome file taken written
 
 -- what it says of the bytes taken, of what is left of the input and of the bytes written, whatever
 -- the file and whether or not the shelf tells it
-abbrev pub Transfers : Request → Status → List ℕ → Option (List ℕ) → List ℕ → Type 0
-Transfers (Seq name) status taken left written = SeqTransfers status written × (taken ≡ [])
-Transfers (Check name) status taken left written = CheckTransfers status written × (taken ≡ [])
-Transfers (Mean name steps) status taken left written = MeanTransfers status taken left written
+abbrev pub Transfers : Request → Outcome → List ℕ → Option (List ℕ) → List ℕ → Type 0
+Transfers (Seq name) outcome taken left written = SeqTransfers outcome written × (taken ≡ [])
+Transfers (Check name) outcome taken left written = CheckTransfers outcome written × (taken ≡ [])
+Transfers (Mean name steps) outcome taken left written = MeanTransfers outcome taken left written
 
 -- how often the ends of a command have failed
 pub record Faults : Type 0 where
@@ -163,40 +169,37 @@ pub record Faults : Type 0 where
   pub input : ℕ
   pub output : ℕ
 
--- what the status says of the faults before the call and after it: the one that it names rose, and the others stand
-abbrev pub Counts : Status → Faults → Faults → Type 0
-Counts LoadFault old new = Rose old.shelf new.shelf × (new ≡ record old { shelf = new.shelf })
-Counts ReadFault old new = Rose old.input new.input × (new ≡ record old { input = new.input })
-Counts WriteFault old new = Rose old.output new.output × (new ≡ record old { output = new.output })
-Counts (Done exit) old new = new ≡ old
-Counts Fine old new = new ≡ old
-Counts ProgramTooLong old new = new ≡ old
-Counts (Rejected refused) old new = new ≡ old
-Counts InputTooLong old new = new ≡ old
-Counts StackFull old new = new ≡ old
-Counts (Undefined act at) old new = new ≡ old
-Counts MoreSteps old new = new ≡ old
-Counts NotYetBuilt old new = new ≡ old
-Counts OutOfMemory old new = new ≡ old
-Counts BadWords old new = new ≡ old
-Counts ReportFault old new = ⊥
+-- the count of this end rose, if of any, and the others stand (a command doesn't use the report)
+abbrev pub Rises : Option End → Faults → Faults → Type 0
+Rises None old new = new ≡ old
+Rises (Some end.Shelf) old new =
+    Rose old.shelf new.shelf × (new ≡ record old { shelf = new.shelf })
+Rises (Some end.Input) old new =
+    Rose old.input new.input × (new ≡ record old { input = new.input })
+Rises (Some end.Output) old new =
+    Rose old.output new.output × (new ≡ record old { output = new.output })
+Rises (Some end.Report) old new = ⊥
+
+-- what an outcome says of the faults before the call and after it
+abbrev pub Counts : Outcome → Faults → Faults → Type 0
+Counts outcome old new = Rises (row_of (status_of outcome)).fault old new
 
 -- why no text was loaded, and that it was too long where the shelf tells
-abbrev pub IsUnloaded : Status → Type 0 → Option (List ℕ) → Type 0
+abbrev pub IsUnloaded : Outcome → Type 0 → Option (List ℕ) → Type 0
 IsUnloaded LoadFault told file = Unit {0}
 IsUnloaded OutOfMemory told file = Unit {0}
 IsUnloaded ProgramTooLong told file = told → IsTooLong file
 IsUnloaded _ told file = ⊥
 
 -- why the input was not read to its end, of which these bytes were taken
-abbrev pub IsUnread : Status → List ℕ → Type 0
+abbrev pub IsUnread : Outcome → List ℕ → Type 0
 IsUnread ReadFault taken = Unit {0}
 IsUnread OutOfMemory taken = Unit {0}
 IsUnread InputTooLong taken = INPUT_BYTES < length taken
 IsUnread _ taken = ⊥
 
 -- why a text has no meaning of which the call could tell, where these bytes of the input were taken
-abbrev pub IsUnmeant : Status → List ℕ → List ℕ → Type 0
+abbrev pub IsUnmeant : Outcome → List ℕ → List ℕ → Type 0
 IsUnmeant (Rejected refused) text taken = Refuses text refused × IsRejection refused × (taken ≡ [])
 IsUnmeant InputTooLong text taken = IsFine text × (INPUT_BYTES < length taken)
 IsUnmeant ReadFault text taken = IsFine text
@@ -204,16 +207,16 @@ IsUnmeant OutOfMemory text taken = Unit {0}
 IsUnmeant _ text taken = ⊥
 
 -- how a command ends whose text has this meaning
-abbrev pub meaning_status : Meaning → Status
-meaning_status (meaning.Done output exit) = Done exit
-meaning_status (meaning.StackFull' output) = StackFull
-meaning_status (meaning.More' output) = MoreSteps
-meaning_status (meaning.Undefined' output act at) = Undefined act at
+abbrev pub meaning_outcome : Meaning → Outcome
+meaning_outcome (meaning.Done output exit) = Done exit
+meaning_outcome (meaning.StackFull' output) = StackFull
+meaning_outcome (meaning.More' output) = MoreSteps
+meaning_outcome (meaning.Undefined' output act at) = Undefined act at
 
 -- how a command ends whose text is refused
-abbrev pub refused_status : Refused → Status
-refused_status refused.OutOfMemory = OutOfMemory
-refused_status other = Rejected other
+abbrev pub refused_outcome : Refused → Outcome
+refused_outcome refused.OutOfMemory = OutOfMemory
+refused_outcome other = Rejected other
 
 -- the ends of a command at one moment: what the shelf, the input and the output tell, and how often each has failed
 pub record Ends : Type 0 where
@@ -223,8 +226,8 @@ pub record Ends : Type 0 where
   pub output : Option (List ℕ)
   pub faults : Faults
 
--- the number of bytes that is reported of a meaning with this status, which has written so many
-abbrev pub count_told : Status → ℕ → Option ℕ
+-- the number of bytes that is reported of a meaning with this outcome, which has written so many
+abbrev pub count_told : Outcome → ℕ → Option ℕ
 count_told (Done exit) count = Some count
 count_told StackFull count = Some count
 count_told (Undefined act at) count = Some count
@@ -233,50 +236,73 @@ count_told WriteFault count = Some 0
 count_told _ count = None
 
 -- the output of a meaning was handed to a sink
-pub record HasPut (m : Meaning) (status : Status) (bytes : Option ℕ)
+pub record HasPut (m : Meaning) (outcome : Outcome) (bytes : Option ℕ)
     (old new : Option (List ℕ)) : Type 0 where
   pub written : List ℕ
   pub writes : Appends old new written
-  pub puts : Puts status written m
-  pub counted : bytes ≡ count_told status (length written)
+  pub puts : Puts outcome written m
+  pub counted : bytes ≡ count_told outcome (length written)
 
 -- a text was evaluated, which is the file where the file is told
-pub record HasMeant (steps : ℕ) (told : Type 0) (file : Option (List ℕ)) (status : Status)
+pub record HasMeant (steps : ℕ) (told : Type 0) (file : Option (List ℕ)) (outcome : Outcome)
     (bytes : Option ℕ) (input left old new : Option (List ℕ)) : Type 0 where
   pub taken : List ℕ
   pub written : List ℕ
   pub takes : Consumes input left taken
   pub writes : Appends old new written
-  pub transfers : MeanTransfers status taken left written
-  pub says : told → MeanSays steps status file taken written
-  pub counted : bytes ≡ count_told status (length written)
+  pub transfers : MeanTransfers outcome taken left written
+  pub says : told → MeanSays steps outcome file taken written
+  pub counted : bytes ≡ count_told outcome (length written)
 
--- what a command has done that ends with this status: which bytes it took and wrote, how many it
--- reports, which end has failed, and what all that says of the file where the shelf tells it
-pub record Ended (words : List (List ℕ)) (old new : Ends) (status : Status)
+-- the number of bytes that is reported of a command: of a meaning alone
+abbrev pub reported_count : Request → Outcome → ℕ → Option ℕ
+reported_count (Mean name steps) outcome count = count_told outcome count
+reported_count _ outcome count = None
+
+-- what the command of a request has done that has this outcome: which bytes it took and wrote, how
+-- many it reports, which end has failed, and what all that says of the file where the shelf tells
+-- it
+pub record Ended (request : Request) (old new : Ends) (outcome : Outcome)
     (bytes : Option ℕ) : Type 0 where
   pub taken : List ℕ
   pub written : List ℕ
   pub takes : Consumes old.input new.input taken
   pub writes : Appends old.output new.output written
-  pub transfers : (request : Request) → IsRequest words request
-      → Transfers request status taken new.input written
-  pub idle : AsksNothing words → (taken ≡ []) × (written ≡ [])
-  pub says : IsTrue old.tells → (request : Request) → IsRequest words request
-      → Says request status (old.file (name_of request)) taken written
-  pub counts : Counts status old.faults new.faults
-  pub counted : AsksMean words → bytes ≡ count_told status (length written)
-  pub uncounted : (AsksMean words → ⊥) → bytes ≡ None
+  pub transfers : Transfers request outcome taken new.input written
+  pub says : IsTrue old.tells
+      → Says request outcome (old.file (name_of request)) taken written
+  pub counts : Counts outcome old.faults new.faults
+  pub counted : bytes ≡ reported_count request outcome (length written)
+
+-- the words ask for nothing, and nothing is done: no byte is taken or written, and no end fails
+pub record DoesNothing (words : List (List ℕ)) (old new : Ends) (inner : Status)
+    (bytes : Option ℕ) : Type 0 where
+  pub asks : AsksNothing words
+  pub status : inner ≡ BadWords
+  pub takes : Consumes old.input new.input []
+  pub writes : Appends old.output new.output []
+  pub counts : new.faults ≡ old.faults
+  pub untold : bytes ≡ None
+
+-- the words are this request, and its command has ended
+pub record DoesRequest (words : List (List ℕ)) (old new : Ends) (inner : Status)
+    (bytes : Option ℕ) : Type 0 where
+  pub request : Request
+  pub asked : IsRequest words request
+  pub outcome : Outcome
+  pub status : inner ≡ status_of outcome
+  pub ended : Ended request old new outcome bytes
 
 -- the report at one moment
 pub record Reporting : Type 0 where
   pub content : Option (List ℕ)
   pub faults : ℕ
 
--- the course of a call: a command ends with the inner status, which is then reported
+-- the course of a call: what its words ask for, if anything, is done and ends with the inner
+-- status, which is then reported
 pub record Course (words : List (List ℕ)) (old new : Ends) (before after : Reporting)
     (final : Status) : Type 0 where
   pub inner : Status
   pub bytes : Option ℕ
-  pub command : Ended words old new inner bytes
+  pub command : DoesNothing words old new inner bytes ⊎ DoesRequest words old new inner bytes
   pub reported : Reported inner final bytes before.content after.content before.faults after.faults

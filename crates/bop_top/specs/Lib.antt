@@ -1,5 +1,5 @@
-pub mod Codes
 pub mod CommandWords
 pub mod Headline
 pub mod Report
+pub mod Statuses
 pub mod private

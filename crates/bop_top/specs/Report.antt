@@ -1,5 +1,5 @@
 -- The report: a line about how a command has ended, for a meaning one about the bytes written, and what becomes of them.
-use Rattle.std.specs.Prelude.{◌≡◌, ℕ, List, [], ◌++◌, codes, Bool, true, false, if◌then◌else◌, Option, Some, None, ◌⊎◌}
+use Rattle.std.specs.Prelude.{◌≡◌, ℕ, List, [], ◌++◌, codes, if◌then◌else◌, Option, Some, None, ◌⊎◌}
 use Rattle.std.specs.Fmt.{decimal, signed_decimal}
 use Rattle.std.specs.Io.KnownBytes.{Appends}
 use Rattle.byte_lists.specs.Content.{AppendsPrefix}
@@ -20,7 +20,8 @@ use Rattle.c_tree.specs.declared.undefined.Undefined.TheVariants as act
 use Rattle.low_link.specs.declared.refused.Refused.{Refused}
 use Rattle.low_link.specs.declared.refused.Refused.TheVariants as refused
 use Rattle.bop_top.specs.declared.status.Status.{Status}
-use Rattle.bop_top.specs.declared.status.Status.TheVariants.{Done, Fine, BadWords, LoadFault, ProgramTooLong, Rejected, ReadFault, InputTooLong, StackFull, Undefined, MoreSteps, WriteFault, ReportFault, OutOfMemory, NotYetBuilt}
+use Rattle.bop_top.specs.declared.status.Status.TheVariants.{Done, Rejected, Undefined, ReportFault}
+use Rattle.bop_top.specs.Statuses.{row_of}
 
 -- a place behind the name of what stands there
 abbrev pub placed : List ℕ → Place → List ℕ
@@ -75,23 +76,16 @@ act_text act.Indeterminate = codes "indeterminate"
 act_text act.Pointer = codes "pointer"
 act_text act.NoValue = codes "no-value"
 
+-- what the text of a status has behind its name
+abbrev pub detail : Status → List ℕ
+detail (Done exit) = codes " " ++ signed_decimal exit
+detail (Rejected refused) = codes " " ++ rejection refused
+detail (Undefined act at) = codes " " ++ placed (act_text act) at
+detail _ = []
+
 -- the text of a status (no command ends with ReportFault, so its text is never reported)
 abbrev pub text_of : Status → List ℕ
-text_of (Done exit) = codes "done " ++ signed_decimal exit
-text_of Fine = codes "fine"
-text_of BadWords = codes "bad-words"
-text_of LoadFault = codes "load-fault"
-text_of ProgramTooLong = codes "program-too-long"
-text_of (Rejected refused) = codes "rejected " ++ rejection refused
-text_of ReadFault = codes "read-fault"
-text_of InputTooLong = codes "input-too-long"
-text_of StackFull = codes "stack-full"
-text_of (Undefined act at) = codes "undefined " ++ placed (act_text act) at
-text_of MoreSteps = codes "more-steps"
-text_of WriteFault = codes "write-fault"
-text_of ReportFault = codes "report-fault"
-text_of OutOfMemory = codes "out-of-memory"
-text_of NotYetBuilt = codes "not-yet-built"
+text_of status = (row_of status).name ++ detail status
 
 -- the line that reports it
 abbrev pub line : Status → List ℕ
@@ -106,27 +100,9 @@ bytes_line (Some count) = codes "bytes " ++ decimal count ++ codes "\n"
 abbrev pub report_of : Status → Option ℕ → List ℕ
 report_of status bytes = line status ++ bytes_line bytes
 
--- what was asked for was answered
-abbrev pub is_answer : Status → Bool
-is_answer (Done exit) = true
-is_answer Fine = true
-is_answer BadWords = false
-is_answer LoadFault = false
-is_answer ProgramTooLong = false
-is_answer (Rejected refused) = false
-is_answer ReadFault = false
-is_answer InputTooLong = false
-is_answer StackFull = true
-is_answer (Undefined act at) = true
-is_answer MoreSteps = true
-is_answer WriteFault = false
-is_answer ReportFault = false
-is_answer OutOfMemory = false
-is_answer NotYetBuilt = false
-
 -- how a call ends where its command has ended so and the report has failed
 abbrev pub unreported : Status → Status
-unreported inner = if is_answer inner then ReportFault else inner
+unreported inner = if (row_of inner).answer then ReportFault else inner
 
 -- the whole report was appended
 pub record HasReported (inner final : Status) (bytes : Option ℕ) (old new : Option (List ℕ))

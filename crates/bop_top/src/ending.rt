@@ -1,22 +1,23 @@
-// How a command has ended, with what its report tells of the bytes.
+//! How a command has ended, with what its report tells of the bytes.
+
 ghost use Rattle.std.specs.Prelude.{◌≡◌, None};
 
-use crate::Status;
+use crate::outcome::Outcome;
 
 /// How a command has ended, and how many bytes it has written where its report tells that.
 #[derive(Clone, Copy, Debug)]
 pub struct Ending {
-    pub status: Status,
+    pub outcome: Outcome,
     pub bytes: Option<u64>,
 }
 
 impl Ending {
     /// An end whose report is the line about the status alone.
-    pub fn of(status: Status) -> Ending
-        ensures { result ≡ record { status = status; bytes = None } }
+    pub fn of(outcome: Outcome) -> Ending
+        ensures { result ≡ record { outcome = outcome; bytes = None } }
     {
         Ending {
-            status,
+            outcome,
             bytes: None,
         }
     }

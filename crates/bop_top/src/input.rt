@@ -1,9 +1,10 @@
-// The input of a program, read whole.
+//! The input of a program, read whole.
+
 ghost use Rattle.std.specs.Prelude.{◌≡◌, ℕ, List, IfOk, OnOk, IfErr};
 ghost use Rattle.std.specs.Io.KnownBytes.{Consumes};
 ghost use Rattle.bop_top.specs.Headline.{Counts, IsInput, IsUnread};
 
-use crate::Status;
+use crate::outcome::Outcome;
 use bop_ends::Source;
 use std::alloc::Global;
 
@@ -11,15 +12,15 @@ use std::alloc::Global;
 pub const INPUT_BYTES: usize = 16_777_216;
 
 /// Reads the input to its end. A longer one is read until that is known.
-pub fn read_input<S: Source>(alloc: Global, input: &mut S) -> Result<Vec<u8>, Status>
+pub fn read_input<S: Source>(alloc: Global, input: &mut S) -> Result<Vec<u8>, Outcome>
     ensures whole { IfOk result
         (λ bytes. Consumes (S.left input.old) (S.left input.new) bytes.items
         × IsInput bytes.items (S.left input.new)) }
     ensures part { IfErr result
-        (λ status. (taken : List ℕ) × Consumes (S.left input.old) (S.left input.new) taken
-        × IsUnread status taken) }
+        (λ outcome. (taken : List ℕ) × Consumes (S.left input.old) (S.left input.new) taken
+        × IsUnread outcome taken) }
     ensures kept { OnOk result (S.faults input.new ≡ S.faults input.old) }
-    ensures counts { IfErr result (λ status. (h o : ℕ) → Counts status
+    ensures counts { IfErr result (λ outcome. (h o : ℕ) → Counts outcome
         (record { shelf = h; input = S.faults input.old; output = o })
         (record { shelf = h; input = S.faults input.new; output = o })) }
 {
@@ -27,14 +28,14 @@ pub fn read_input<S: Source>(alloc: Global, input: &mut S) -> Result<Vec<u8>, St
     let mut piece = [0; 4096];
     while bytes.len() <= INPUT_BYTES {
         let Ok(count) = input.read(&mut piece) else {
-            return Err(Status::ReadFault);
+            return Err(Outcome::ReadFault);
         };
         if count == 0 {
             return Ok(bytes);
         }
         if bytes.extend_from_slice(&piece[..count]).is_err() {
-            return Err(Status::OutOfMemory);
+            return Err(Outcome::OutOfMemory);
         }
     }
-    Err(Status::InputTooLong)
+    Err(Outcome::InputTooLong)
 }

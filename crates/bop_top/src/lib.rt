@@ -3,8 +3,10 @@
 
 mod ending;
 mod input;
+mod laws;
 mod machine;
 mod meaning;
+mod outcome;
 mod piece;
 mod report;
 mod run;
@@ -12,6 +14,7 @@ mod status;
 mod top;
 mod words;
 
+pub use laws::one_request_of_words;
 pub use status::Status;
 pub use top::bop_main;
 

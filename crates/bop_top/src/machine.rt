@@ -1,4 +1,5 @@
-// The machine that runs a program in place. None of its instructions reaches its memory yet.
+//! The machine that runs a program in place. None of its instructions reaches its memory yet.
+
 ghost use Rattle.std.specs.Prelude.{◌≡◌, ◌<◌, ◌≤◌, ◌^◌, ◌+◌, ◌++◌, [], List, ℕ, None, Some, length, slice_get};
 ghost use Rattle.std.specs.Option.{option_to_list};
 ghost use Rattle.rv_code.specs.State.{Running, start as start_of, register, with_register};
@@ -66,7 +67,7 @@ impl Machine {
         }
     }
 
-    // A call of the machine.
+    /// A call of the machine.
     fn call(&mut self, input: &[u8]) -> Option<u8>
         requires going { self.old.stop ≡ None }
         requires short { length input.now ≤ 16777216 }
@@ -106,7 +107,7 @@ impl Machine {
         }
     }
 
-    // Call 1: the next byte of the input, or -1.
+    /// Call 1: the next byte of the input, or -1.
     fn get(&mut self, input: &[u8])
         requires short { length input.now ≤ 16777216 }
         requires low { self.old.count < 2 ^ 63 }
@@ -121,7 +122,7 @@ impl Machine {
         }
     }
 
-    // Stops. The step counts, and nothing else changes.
+    /// Stops. The step counts, and nothing else changes.
     fn halt(&mut self, stop: Stop)
         requires { self.old.count < 2 ^ 63 }
         ensures { self.new ≡ record self.old { count = self.old.count + 1; stop = Some stop } }
@@ -130,7 +131,7 @@ impl Machine {
         self.stop = Some(stop);
     }
 
-    // Goes on at the next instruction.
+    /// Goes on at the next instruction.
     fn go_on(&mut self)
         requires { self.old.count < 2 ^ 63 }
         ensures { self.new ≡ at_next self.old }
@@ -139,7 +140,7 @@ impl Machine {
         self.pc = self.pc.wrapping_add(4);
     }
 
-    // Writes a register and goes on at the next instruction.
+    /// Writes a register and goes on at the next instruction.
     fn write(&mut self, rd: u8, value: u32)
         requires low { self.old.count < 2 ^ 63 }
         requires register { rd < 32 }
@@ -151,7 +152,7 @@ impl Machine {
         self.go_on();
     }
 
-    // What a register reads as.
+    /// What a register reads as.
     fn read(&self, r: u8) -> u32
         requires { r < 32 }
         ensures { result ≡ register self.now.x r }
@@ -160,7 +161,7 @@ impl Machine {
     }
 }
 
-// The word at an address.
+/// The word at an address.
 fn fetch(code: &[u32], pc: u32) -> Option<u32>
     ensures { result ≡ word_at code.now pc }
 {

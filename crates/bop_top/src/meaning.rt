@@ -1,4 +1,5 @@
-// What a text means, and its output on the way to the sink.
+//! What a text means, and its output on the way to the sink.
+
 ghost use Rattle.std.specs.Prelude.{◌≡◌, ◌≤◌, ℕ, List, Some, ⊤, length, IfOk, OnOk, OnErr, IfErr};
 ghost use Rattle.std.specs.Io.KnownBytes.{Appends, Consumes};
 ghost use Rattle.byte_lists.specs.Content.{AppendsPrefix};
@@ -10,14 +11,12 @@ ghost use Rattle.c_semantics.specs.Meaning.{meant};
 ghost use Rattle.c_semantics.specs.Outcome.{output_of};
 ghost use Rattle.c_tree.specs.Erase.{erased_text};
 ghost use Rattle.c_tree.specs.View.{items_of};
-ghost use Rattle.bop_top.specs.Headline.{Means, IsInput, IsUnmeant, HasPut, HasMeant, Counts, meaning_status};
-ghost use Rattle.bop_top.specs.declared.status.Status.TheVariants.{BadWords};
+ghost use Rattle.bop_top.specs.Headline.{Means, IsInput, IsUnmeant, HasPut, HasMeant, Counts, meaning_outcome};
 ghost use Rattle.bop_top.specs.declared.top.TheConstants.{TEXT_BYTES};
 
-use crate::Status;
 use crate::ending::Ending;
 use crate::input::read_input;
-use crate::top::status_of;
+use crate::outcome::{Outcome, outcome_of};
 use bop_ends::{Failed, Sink, Source};
 use c_layout::Layout;
 use c_meaning::{Meant, evaluate};
@@ -34,51 +33,50 @@ pub fn mean_text<S: Source, K: Sink>(
     output: &mut K,
 ) -> Ending
     requires { length text.now ≤ TEXT_BYTES }
-    ensures meant { HasMeant steps ⊤ (Some text.now) result.status result.bytes
+    ensures meant { HasMeant steps ⊤ (Some text.now) result.outcome result.bytes
         (S.left input.old) (S.left input.new) (K.content output.old) (K.content output.new) }
-    ensures words { result.status ≡ BadWords → ⊥ }
-    ensures counts { (h : ℕ) → Counts result.status
+    ensures counts { (h : ℕ) → Counts result.outcome
         (record { shelf = h; input = S.faults input.old; output = K.faults output.old })
         (record { shelf = h; input = S.faults input.new; output = K.faults output.new }) }
 {
     match meaning(alloc, text, steps, input) {
         Ok(meant) => put_meaning(&meant, output),
-        Err(status) => Ending::of(status),
+        Err(outcome) => Ending::of(outcome),
     }
 }
 
-// What a text means with the input within so many steps.
+/// What a text means with the input within so many steps.
 fn meaning<S: Source>(
     alloc: Global,
     text: &[u8],
     steps: u64,
     input: &mut S,
-) -> Result<Meant, Status>
+) -> Result<Meant, Outcome>
     requires { length text.now ≤ TEXT_BYTES }
     ensures meant { IfOk result
         (λ answer. (taken : List ℕ) × Consumes (S.left input.old) (S.left input.new) taken
         × Means text.now taken steps (λ m. m ≡ meaning_of answer)
         × IsInput taken (S.left input.new)) }
     ensures refused { IfErr result
-        (λ status. (taken : List ℕ) × Consumes (S.left input.old) (S.left input.new) taken
-        × IsUnmeant status text.now taken) }
+        (λ outcome. (taken : List ℕ) × Consumes (S.left input.old) (S.left input.new) taken
+        × IsUnmeant outcome text.now taken) }
     ensures kept { OnOk result (S.faults input.new ≡ S.faults input.old) }
-    ensures counts { IfErr result (λ status. (h o : ℕ) → Counts status
+    ensures counts { IfErr result (λ outcome. (h o : ℕ) → Counts outcome
         (record { shelf = h; input = S.faults input.old; output = o })
         (record { shelf = h; input = S.faults input.new; output = o })) }
 {
     let (checked, layout) = match front(alloc, text) {
         Ok(parts) => parts,
-        Err(refused) => return Err(status_of(refused)),
+        Err(refused) => return Err(outcome_of(refused)),
     };
     let bytes = read_input(alloc, input)?;
     match evaluate_erased(alloc, &checked, &layout, &bytes, steps) {
         Ok(meant) => Ok(meant),
-        Err(OutOfMemory) => Err(Status::OutOfMemory),
+        Err(OutOfMemory) => Err(Outcome::OutOfMemory),
     }
 }
 
-// What a text means where each of its markers is the empty statement.
+/// What a text means where each of its markers is the empty statement.
 fn evaluate_erased(
     alloc: Global,
     checked: &Checked,
@@ -94,7 +92,7 @@ fn evaluate_erased(
     evaluate(alloc, &bare, layout, input, steps)
 }
 
-// The tree without its markers.
+/// The tree without its markers.
 fn without_markers(alloc: Global, checked: &Checked) -> Result<Checked, OutOfMemory>
     ensures { IfOk result (λ bare. items_of bare.tree ≡ erased_text (items_of checked.now.tree)) }
 {
@@ -102,29 +100,28 @@ fn without_markers(alloc: Global, checked: &Checked) -> Result<Checked, OutOfMem
     Ok(Checked::of(bare))
 }
 
-// Hands the output of a meaning to the sink.
+/// Hands the output of a meaning to the sink.
 fn put_meaning<K: Sink>(meant: &Meant, output: &mut K) -> Ending
-    ensures put { HasPut (meaning_of meant.now) result.status result.bytes (K.content output.old)
+    ensures put { HasPut (meaning_of meant.now) result.outcome result.bytes (K.content output.old)
         (K.content output.new) }
-    ensures words { result.status ≡ BadWords → ⊥ }
-    ensures counts { (h i : ℕ) → Counts result.status
+    ensures counts { (h i : ℕ) → Counts result.outcome
         (record { shelf = h; input = i; output = K.faults output.old })
         (record { shelf = h; input = i; output = K.faults output.new }) }
 {
     let bytes = bytes_of(meant);
     match put_whole(bytes, output) {
         Ok(()) => Ending {
-            status: status_of_meaning(meant),
+            outcome: outcome_of_meaning(meant),
             bytes: Some(bytes.len() as u64),
         },
         Err(Failed) => Ending {
-            status: Status::WriteFault,
+            outcome: Outcome::WriteFault,
             bytes: Some(0),
         },
     }
 }
 
-// What a meaning puts out.
+/// What a meaning puts out.
 fn bytes_of(meant: &Meant) -> &[u8]
     ensures { result.now ≡ output_of (meaning_of meant.now) }
 {
@@ -136,19 +133,19 @@ fn bytes_of(meant: &Meant) -> &[u8]
     }
 }
 
-// How a command ends whose text has this meaning.
-fn status_of_meaning(meant: &Meant) -> Status
-    ensures { result ≡ meaning_status (meaning_of meant.now) }
+/// How a command ends whose text has this meaning.
+fn outcome_of_meaning(meant: &Meant) -> Outcome
+    ensures { result ≡ meaning_outcome (meaning_of meant.now) }
 {
     match meant {
-        Meant::Done(_, exit) => Status::Done(*exit),
-        Meant::StackFull(_) => Status::StackFull,
-        Meant::More(_) => Status::MoreSteps,
-        Meant::Undefined(_, act, at) => Status::Undefined(*act, *at),
+        Meant::Done(_, exit) => Outcome::Done(*exit),
+        Meant::StackFull(_) => Outcome::StackFull,
+        Meant::More(_) => Outcome::MoreSteps,
+        Meant::Undefined(_, act, at) => Outcome::Undefined(*act, *at),
     }
 }
 
-// Hands all the bytes to the sink at once, where there are any.
+/// Hands all the bytes to the sink at once, where there are any.
 fn put_whole<K: Sink>(bytes: &[u8], output: &mut K) -> Result<(), Failed>
     ensures whole { OnOk result (Appends (K.content output.old) (K.content output.new) bytes.now) }
     ensures part { OnErr result

@@ -1,4 +1,5 @@
-// Bytes on their way to the sink.
+//! Bytes on their way to the sink.
+
 ghost use Rattle.std.specs.Prelude.{◌≡◌, ◌≤◌, ◌<◌, ◌++◌, ◌∷◌, [], List, ℕ, take, length, IsTrue, ◌↔◌};
 
 use std::marker::Model;

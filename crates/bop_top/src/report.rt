@@ -1,7 +1,8 @@
-// The report: a line about how a command has ended, and for a meaning one about the bytes written.
+//! The report: a line about how a command has ended, and for a meaning one about the bytes written.
+
 ghost use Rattle.std.specs.Prelude.{◌≡◌, ◌≤◌, ◌<◌, ◌+◌, ◌++◌, length};
 ghost use Rattle.arrayvec.specs.ArrayString.{array_string_len};
-ghost use Rattle.bop_top.specs.Report.{Reported, report_of, bytes_line, text_of, act_text, placed, kind_text, rejection, unreported as unreported_of};
+ghost use Rattle.bop_top.specs.Report.{Reported, report_of, bytes_line, text_of, detail, act_text, placed, kind_text, rejection, unreported as unreported_of};
 
 use crate::Status;
 use arrayvec::ArrayString;
@@ -32,21 +33,17 @@ pub fn report_status<R: Sink>(inner: Status, bytes: Option<u64>, report: &mut R)
     }
 }
 
-// How a call ends whose report has failed.
+/// How a call ends whose report has failed.
 fn unreported(inner: Status) -> Status
     ensures { result ≡ unreported_of inner }
 {
-    match inner {
-        Status::Done(_) => Status::ReportFault,
-        Status::Fine => Status::ReportFault,
-        Status::StackFull => Status::ReportFault,
-        Status::Undefined(_, _) => Status::ReportFault,
-        Status::MoreSteps => Status::ReportFault,
-        other => other,
+    if inner.row().answer {
+        return Status::ReportFault;
     }
+    inner
 }
 
-// The text of a report. It takes no memory.
+/// The text of a report. It takes no memory.
 fn text(status: Status, bytes: Option<u64>) -> ArrayString<REPORT_BYTES>
     ensures { result.bytes ≡ report_of status bytes }
 {
@@ -58,7 +55,7 @@ fn text(status: Status, bytes: Option<u64>) -> ArrayString<REPORT_BYTES>
     text
 }
 
-// Adds the line about the bytes written.
+/// Adds the line about the bytes written.
 fn push_bytes(text: &mut ArrayString<REPORT_BYTES>, bytes: Option<u64>)
     requires { array_string_len text.old ≤ LINE_BYTES }
     ensures { text.new.bytes ≡ text.old.bytes ++ bytes_line bytes }
@@ -70,41 +67,40 @@ fn push_bytes(text: &mut ArrayString<REPORT_BYTES>, bytes: Option<u64>)
     }
 }
 
-// Adds the text of a status.
+/// Adds the text of a status.
 fn push_text(line: &mut ArrayString<REPORT_BYTES>, status: Status)
     requires { array_string_len line.old ≤ 8 }
     ensures text { line.new.bytes ≡ line.old.bytes ++ text_of status }
     ensures room { array_string_len line.new < LINE_BYTES }
 {
+    line.push_str(status.row().name);
+    push_detail(line, status);
+}
+
+/// Adds what the text of a status has behind its name.
+fn push_detail(line: &mut ArrayString<REPORT_BYTES>, status: Status)
+    requires { array_string_len line.old ≤ 24 }
+    ensures text { line.new.bytes ≡ line.old.bytes ++ detail status }
+    ensures room { array_string_len line.new < LINE_BYTES }
+{
     match status {
         Status::Done(exit) => {
-            line.push_str("done ");
+            line.push_str(" ");
             line.push_str(Buffer::new().format(exit));
         }
-        Status::Fine => line.push_str("fine"),
-        Status::BadWords => line.push_str("bad-words"),
-        Status::LoadFault => line.push_str("load-fault"),
-        Status::ProgramTooLong => line.push_str("program-too-long"),
         Status::Rejected(refused) => {
-            line.push_str("rejected ");
+            line.push_str(" ");
             push_rejection(line, refused);
         }
-        Status::ReadFault => line.push_str("read-fault"),
-        Status::InputTooLong => line.push_str("input-too-long"),
-        Status::StackFull => line.push_str("stack-full"),
         Status::Undefined(act, at) => {
-            line.push_str("undefined ");
+            line.push_str(" ");
             push_placed(line, act_name(act), at);
         }
-        Status::MoreSteps => line.push_str("more-steps"),
-        Status::WriteFault => line.push_str("write-fault"),
-        Status::ReportFault => line.push_str("report-fault"),
-        Status::OutOfMemory => line.push_str("out-of-memory"),
-        Status::NotYetBuilt => line.push_str("not-yet-built"),
+        _ => {}
     }
 }
 
-// Adds a place behind the name of what stands there.
+/// Adds a place behind the name of what stands there.
 fn push_placed(line: &mut ArrayString<REPORT_BYTES>, name: &str, at: Place)
     requires { array_string_len line.old + length name.now ≤ 64 }
     ensures text { line.new.bytes ≡ line.old.bytes ++ placed name.now at }
@@ -147,9 +143,9 @@ fn act_name(act: Undefined) -> &'static str
     }
 }
 
-// Adds why a text is rejected.
+/// Adds why a text is rejected.
 fn push_rejection(line: &mut ArrayString<REPORT_BYTES>, refused: Refused)
-    requires { array_string_len line.old ≤ 20 }
+    requires { array_string_len line.old ≤ 25 }
     ensures text { line.new.bytes ≡ line.old.bytes ++ rejection refused }
     ensures room { array_string_len line.new < LINE_BYTES }
 {

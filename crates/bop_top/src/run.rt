@@ -1,4 +1,5 @@
-// A run in place, whose bytes go to a sink piece by piece.
+//! A run in place, whose bytes go to a sink piece by piece.
+
 ghost use Rattle.std.specs.Prelude.{◌≡◌, ◌<◌, ◌≤◌, ◌^◌, ◌++◌, ◌∷◌, [], List, ℕ, length, IfOk, OnOk, OnErr};
 ghost use Rattle.std.specs.Io.KnownBytes.{Appends};
 ghost use Rattle.byte_lists.specs.Content.{AppendsPrefix};
@@ -43,7 +44,7 @@ pub fn run<K: Sink>(
     Ok(machine)
 }
 
-// Adds a byte to the piece, and hands a full piece to the sink.
+/// Adds a byte to the piece, and hands a full piece to the sink.
 fn put<K: Sink>(piece: &mut Piece, byte: u8, sink: &mut K) -> Result<(), Failed>
     requires { length piece.old < 4096 }
     ensures room { OnOk result (length piece.new < 4096) }
@@ -60,7 +61,7 @@ fn put<K: Sink>(piece: &mut Piece, byte: u8, sink: &mut K) -> Result<(), Failed>
     flush(piece, sink)
 }
 
-// Hands the piece to the sink.
+/// Hands the piece to the sink.
 fn flush<K: Sink>(piece: &mut Piece, sink: &mut K) -> Result<(), Failed>
     ensures empty { OnOk result (piece.new ≡ []) }
     ensures moved { OnOk result (Appends (K.content sink.old) (K.content sink.new) piece.old) }

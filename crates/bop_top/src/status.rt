@@ -1,11 +1,12 @@
-// How a command has ended.
-ghost use Rattle.std.specs.Prelude.{◌≡◌};
-ghost use Rattle.bop_top.specs.Codes.{code_of};
+//! How a call has ended, and what is told of it.
+
+ghost use Rattle.std.specs.Prelude.{◌≡◌, ◌≤◌, length};
+ghost use Rattle.bop_top.specs.Statuses.{row, row_of};
 
 use c_tree::{Place, Undefined};
 use low_link::Refused;
 
-/// How a command has ended.
+/// How a call has ended.
 #[derive(Clone, Copy, Debug, PartialEq, Eq)]
 pub enum Status {
     /// The program has exited with this value, or its meaning is that it does.
@@ -40,27 +41,76 @@ pub enum Status {
     NotYetBuilt,
 }
 
-impl Status {
+/// An end of a call.
+#[derive(Clone, Copy, Debug)]
+pub enum End {
+    Shelf,
+    Input,
+    Output,
+    Report,
+}
+
+/// What is told of a status.
+#[derive(Clone, Copy, Debug)]
+pub struct Row {
+    /// Its name in the report.
+    pub name: &'static str,
     /// The status with which the process ends.
-    pub fn code(&self) -> u8
-        ensures { result ≡ code_of self.now }
+    pub code: u8,
+    /// Whether what was asked for was answered.
+    pub answer: bool,
+    /// The end that has failed.
+    pub fault: Option<End>,
+}
+
+impl Row {
+    fn new(name: &'static str, code: u8, answer: bool, fault: Option<End>) -> Row
+        ensures { result ≡ record {
+          name = name.entry;
+          code = code;
+          answer = answer;
+          fault = fault;
+        } }
+    {
+        Row {
+            name,
+            code,
+            answer,
+            fault,
+        }
+    }
+}
+
+impl Status {
+    /// The row of the status.
+    pub(crate) fn row(&self) -> Row
+        ensures row { row_of self.now
+            ≡ row result.name.now result.code result.answer result.fault }
+        ensures short { length result.name.now ≤ 16 }
     {
         match self {
-            Status::Done(_) => 0,
-            Status::Fine => 0,
-            Status::BadWords => 2,
-            Status::LoadFault => 3,
-            Status::ProgramTooLong => 4,
-            Status::Rejected(_) => 5,
-            Status::ReadFault => 7,
-            Status::InputTooLong => 8,
-            Status::StackFull => 11,
-            Status::Undefined(_, _) => 12,
-            Status::MoreSteps => 13,
-            Status::WriteFault => 14,
-            Status::ReportFault => 15,
-            Status::OutOfMemory => 18,
-            Status::NotYetBuilt => 19,
+            Status::Done(_) => Row::new("done", 0, true, None),
+            Status::Fine => Row::new("fine", 0, true, None),
+            Status::BadWords => Row::new("bad-words", 2, false, None),
+            Status::LoadFault => Row::new("load-fault", 3, false, Some(End::Shelf)),
+            Status::ProgramTooLong => Row::new("program-too-long", 4, false, None),
+            Status::Rejected(_) => Row::new("rejected", 5, false, None),
+            Status::ReadFault => Row::new("read-fault", 7, false, Some(End::Input)),
+            Status::InputTooLong => Row::new("input-too-long", 8, false, None),
+            Status::StackFull => Row::new("stack-full", 11, true, None),
+            Status::Undefined(_, _) => Row::new("undefined", 12, true, None),
+            Status::MoreSteps => Row::new("more-steps", 13, true, None),
+            Status::WriteFault => Row::new("write-fault", 14, false, Some(End::Output)),
+            Status::ReportFault => Row::new("report-fault", 15, false, Some(End::Report)),
+            Status::OutOfMemory => Row::new("out-of-memory", 18, false, None),
+            Status::NotYetBuilt => Row::new("not-yet-built", 19, false, None),
         }
+    }
+
+    /// The status with which the process ends.
+    pub fn code(&self) -> u8
+        ensures { result ≡ (row_of self.now).code }
+    {
+        self.row().code
     }
 }

@@ -15,7 +15,7 @@ use std::test::Fail;
 
 const GREETING: &str = "int main(void){putchar('A');return 0;}";
 
-// How a call has ended, and what it has left in its source and its sinks.
+/// How a call has ended, and what it has left in its source and its sinks.
 #[derive(Drop)]
 struct Ended {
     status: Status,
@@ -24,7 +24,7 @@ struct Ended {
     report: MemSink,
 }
 
-// A shelf with this text under the name `p.c`.
+/// A shelf with this text under the name `p.c`.
 fn shelf_with(alloc: Global, text: &str) -> Result<MemShelf, Fail> {
     let mut files = BTreeMap::new(alloc);
     files.insert(
@@ -34,19 +34,19 @@ fn shelf_with(alloc: Global, text: &str) -> Result<MemShelf, Fail> {
     Ok(MemShelf::new(alloc, files, Vec::new(alloc)))
 }
 
-// A sink that fails as planned.
+/// A sink that fails as planned.
 fn sink_with(alloc: Global, fails: &[(u64, usize)]) -> Result<MemSink, Fail> {
     let sink = MemSink::new(alloc, 10_000, fails.to_vec(alloc)?);
     Ok(sink.ok().ok_or("no memory for a sink")?)
 }
 
-// A source of these bytes, which gives three at once and fails as planned.
+/// A source of these bytes, which gives three at once and fails as planned.
 fn source_with(alloc: Global, bytes: &[u8], fails: &[u64]) -> Result<MemSource, Fail> {
     Ok(MemSource::new(bytes.to_vec(alloc)?, 3, fails.to_vec(alloc)?))
 }
 
-// What the words ask for, over a shelf with this text, no input, and an output and a report that
-// fail as planned.
+/// What the words ask for, over a shelf with this text, no input, and an output and a report that
+/// fail as planned.
 fn call(
     alloc: Global,
     words: &[&str],
@@ -58,7 +58,7 @@ fn call(
     call_with(alloc, words, text, input, output_fails, report_fails)
 }
 
-// What they ask for with this input.
+/// What they ask for with this input.
 fn call_with(
     alloc: Global,
     words: &[&str],

@@ -1,14 +1,17 @@
-// The top call.
+//! The top call.
+
 ghost use Rattle.std.specs.Prelude.{◌≡◌, ◌↔◌, ◌≤◌, [], length, IfOk, OnOk, IfErr, List, ℕ, ℤ, Some, map, string_bytes, IsTrue};
 ghost use Rattle.std.specs.Io.KnownBytes.{Appends};
-ghost use Rattle.bop_top.specs.CommandWords.{AsksMean, AsksNothing};
-ghost use Rattle.bop_top.specs.Headline.{Course, Ended, HasMeant, SeqSays, SeqTransfers, CheckSays, CheckTransfers, Counts, IsUnloaded, refused_status};
+ghost use Rattle.bop_top.specs.CommandWords.{AsksMean, AsksNothing, IsMean, request_of};
+ghost use Rattle.bop_top.specs.Headline.{Course, Ended, HasMeant, SeqSays, SeqTransfers, CheckSays, CheckTransfers, Counts, IsUnloaded};
+ghost use Rattle.bop_top.specs.private.Untouched.{Untouched};
 ghost use Rattle.bop_top.specs.declared.status.Status.TheVariants.{BadWords};
 
 use crate::Status;
 use crate::ending::Ending;
 use crate::machine::Machine;
 use crate::meaning::mean_text;
+use crate::outcome::{Outcome, outcome_of};
 use crate::report::report_status;
 use crate::run::run;
 use crate::words::{Command, command_of};
@@ -73,19 +76,23 @@ pub fn bop_main<S: Source, K: Sink, R: Sink, H: Shelf>(
     ensures files { H.file shelf.new ≡ H.file shelf.old }
 {
     let mut output = output;
-    let ending = command(alloc, words, shelf, input, &mut output);
-    (report_status(ending.status, ending.bytes, report), output)
+    let Some(command) = command_of(words) else {
+        return (report_status(Status::BadWords, None, report), output);
+    };
+    let ending = execute(alloc, command, shelf, input, &mut output);
+    let inner = ending.outcome.status();
+    (report_status(inner, ending.bytes, report), output)
 }
 
-// Does what the words ask for.
-fn command<S: Source, K: Sink, H: Shelf>(
+/// Does what a command asks for.
+fn execute<S: Source, K: Sink, H: Shelf>(
     alloc: Global,
-    words: &[String],
+    command: Command,
     shelf: &mut H,
     input: &mut S,
     output: &mut K,
 ) -> Ending
-    ensures ended { Ended (map string_bytes words.now)
+    ensures ended { Ended (request_of command.entry)
         (record {
           tells = H.tells shelf.old;
           file = H.file shelf.old;
@@ -108,81 +115,72 @@ fn command<S: Source, K: Sink, H: Shelf>(
             output = K.faults output.new;
           };
         })
-        result.status result.bytes }
-    ensures bad_words { (result.status ≡ BadWords) ↔ AsksNothing (map string_bytes words.now) }
-    ensures unread { (AsksMean (map string_bytes words.now) → ⊥) → input.new ≡ input.old }
-    ensures tells { H.tells shelf.new ≡ H.tells shelf.old }
-    ensures files { H.file shelf.new ≡ H.file shelf.old }
+        result.outcome result.bytes }
+    ensures unread { (IsMean (request_of command.entry) → ⊥) → input.new ≡ input.old }
+    ensures untouched { Untouched H.tells H.file shelf.old shelf.new }
 {
-    match command_of(words) {
-        None => Ending::of(Status::BadWords),
-        Some(Command::Seq(name)) => Ending::of(seq(alloc, name, shelf, output)),
-        Some(Command::Check(name)) => Ending::of(check(alloc, name, shelf)),
-        Some(Command::Mean(name, steps)) => mean(alloc, name, steps, shelf, input, output),
+    match command {
+        Command::Seq(name) => Ending::of(seq(alloc, name, shelf, output)),
+        Command::Check(name) => Ending::of(check(alloc, name, shelf)),
+        Command::Mean(name, steps) => mean(alloc, name, steps, shelf, input, output),
     }
 }
 
-// Loads a text.
-fn load<H: Shelf>(alloc: Global, name: &str, shelf: &mut H) -> Result<Vec<u8>, Status>
+/// Loads a text.
+fn load<H: Shelf>(alloc: Global, name: &str, shelf: &mut H) -> Result<Vec<u8>, Outcome>
     ensures text { IsTrue (H.tells shelf.old)
         → IfOk result (λ text. H.file shelf.old name.now ≡ Some text.items) }
     ensures fits { IfOk result (λ text. length text.items ≤ TEXT_BYTES) }
     ensures refused { IfErr result
-        (λ status. IsUnloaded status (IsTrue (H.tells shelf.old)) (H.file shelf.old name.now)) }
+        (λ outcome. IsUnloaded outcome (IsTrue (H.tells shelf.old)) (H.file shelf.old name.now)) }
     ensures loaded { OnOk result (H.faults shelf.new ≡ H.faults shelf.old) }
     ensures counts { IfErr result
-        (λ status. (i o : ℕ) → Counts status
+        (λ outcome. (i o : ℕ) → Counts outcome
         (record { shelf = H.faults shelf.old; input = i; output = o })
         (record { shelf = H.faults shelf.new; input = i; output = o })) }
-    ensures words { IfErr result (λ status. status ≡ BadWords → ⊥) }
-    ensures tells { H.tells shelf.new ≡ H.tells shelf.old }
-    ensures files { H.file shelf.new ≡ H.file shelf.old }
+    ensures untouched { Untouched H.tells H.file shelf.old shelf.new }
 {
     match shelf.load(alloc, name, MOST_BYTES) {
-        Ok(text) if text.len() > TEXT_BYTES => Err(Status::ProgramTooLong),
+        Ok(text) if text.len() > TEXT_BYTES => Err(Outcome::ProgramTooLong),
         Ok(text) => Ok(text),
-        Err(LoadFault::Failed) => Err(Status::LoadFault),
-        Err(LoadFault::OutOfMemory) => Err(Status::OutOfMemory),
+        Err(LoadFault::Failed) => Err(Outcome::LoadFault),
+        Err(LoadFault::OutOfMemory) => Err(Outcome::OutOfMemory),
     }
 }
 
-// Loads a program and runs it.
-fn seq<K: Sink, H: Shelf>(alloc: Global, name: &str, shelf: &mut H, output: &mut K) -> Status
+/// Loads a program and runs it.
+fn seq<K: Sink, H: Shelf>(alloc: Global, name: &str, shelf: &mut H, output: &mut K) -> Outcome
     ensures says { (written : List ℕ)
         × Appends (K.content output.old) (K.content output.new) written
         × SeqTransfers result written
         × (IsTrue (H.tells shelf.old) → SeqSays result (H.file shelf.old name.now) written) }
-    ensures words { result ≡ BadWords → ⊥ }
     ensures counts { (i : ℕ) → Counts result
         (record { shelf = H.faults shelf.old; input = i; output = K.faults output.old })
         (record { shelf = H.faults shelf.new; input = i; output = K.faults output.new }) }
-    ensures tells { H.tells shelf.new ≡ H.tells shelf.old }
-    ensures files { H.file shelf.new ≡ H.file shelf.old }
+    ensures untouched { Untouched H.tells H.file shelf.old shelf.new }
 {
     match load(alloc, name, shelf) {
         Ok(text) => seq_text(alloc, &text, output),
-        Err(status) => status,
+        Err(outcome) => outcome,
     }
 }
 
-// Loads a program and checks it.
-fn check<H: Shelf>(alloc: Global, name: &str, shelf: &mut H) -> Status
+/// Loads a program and checks it.
+fn check<H: Shelf>(alloc: Global, name: &str, shelf: &mut H) -> Outcome
     ensures transfers { CheckTransfers result [] }
     ensures says { IsTrue (H.tells shelf.old) → CheckSays result (H.file shelf.old name.now) }
-    ensures words { result ≡ BadWords → ⊥ }
     ensures counts { (i o : ℕ)
         → Counts result (record { shelf = H.faults shelf.old; input = i; output = o })
         (record { shelf = H.faults shelf.new; input = i; output = o }) }
-    ensures tells { H.tells shelf.new ≡ H.tells shelf.old }
-    ensures files { H.file shelf.new ≡ H.file shelf.old }
+    ensures untouched { Untouched H.tells H.file shelf.old shelf.new }
 {
     match load(alloc, name, shelf) {
         Ok(text) => check_text(alloc, &text),
-        Err(status) => status,
+        Err(outcome) => outcome,
     }
 }
 
-// Loads a program and evaluates it with the input.
+/// Loads a program and evaluates it with the input.
 fn mean<S: Source, K: Sink, H: Shelf>(
     alloc: Global,
     name: &str,
@@ -192,10 +190,9 @@ fn mean<S: Source, K: Sink, H: Shelf>(
     output: &mut K,
 ) -> Ending
     ensures meant { HasMeant steps (IsTrue (H.tells shelf.old)) (H.file shelf.old name.now)
-        result.status result.bytes
+        result.outcome result.bytes
         (S.left input.old) (S.left input.new) (K.content output.old) (K.content output.new) }
-    ensures words { result.status ≡ BadWords → ⊥ }
-    ensures counts { Counts result.status
+    ensures counts { Counts result.outcome
         (record {
           shelf = H.faults shelf.old;
           input = S.faults input.old;
@@ -206,69 +203,52 @@ fn mean<S: Source, K: Sink, H: Shelf>(
           input = S.faults input.new;
           output = K.faults output.new;
         }) }
-    ensures tells { H.tells shelf.new ≡ H.tells shelf.old }
-    ensures files { H.file shelf.new ≡ H.file shelf.old }
+    ensures untouched { Untouched H.tells H.file shelf.old shelf.new }
 {
     match load(alloc, name, shelf) {
         Ok(text) => mean_text(alloc, &text, steps, input, output),
-        Err(status) => Ending::of(status),
+        Err(outcome) => Ending::of(outcome),
     }
 }
 
-// Checks a text.
-fn check_text(alloc: Global, text: &[u8]) -> Status
+/// Checks a text.
+fn check_text(alloc: Global, text: &[u8]) -> Outcome
     requires { length text.now ≤ TEXT_BYTES }
     ensures transfers { CheckTransfers result [] }
     ensures says { CheckSays result (Some text.now) }
-    ensures words { result ≡ BadWords → ⊥ }
     ensures counts { (h i o : ℕ)
         → Counts result (record { shelf = h; input = i; output = o })
         (record { shelf = h; input = i; output = o }) }
 {
     match front(alloc, text) {
-        Ok(_) => Status::Fine,
-        Err(refused) => status_of(refused),
+        Ok(_) => Outcome::Fine,
+        Err(refused) => outcome_of(refused),
     }
 }
 
-/// How a command ends whose text is refused.
-pub fn status_of(refused: Refused) -> Status
-    ensures status { result ≡ refused_status refused }
-    ensures words { result ≡ BadWords → ⊥ }
-    ensures counts { (h i o : ℕ)
-        → Counts result (record { shelf = h; input = i; output = o })
-        (record { shelf = h; input = i; output = o }) }
-{
-    match refused {
-        Refused::OutOfMemory => Status::OutOfMemory,
-        refused => Status::Rejected(refused),
-    }
-}
-
-// Compiles a text and runs its program.
-fn seq_text<K: Sink>(alloc: Global, text: &[u8], output: &mut K) -> Status
+/// Compiles a text and runs its program.
+fn seq_text<K: Sink>(alloc: Global, text: &[u8], output: &mut K) -> Outcome
     requires { length text.now ≤ TEXT_BYTES }
     ensures says { (written : List ℕ)
         × Appends (K.content output.old) (K.content output.new) written
         × SeqTransfers result written × SeqSays result (Some text.now) written }
-    ensures words { result ≡ BadWords → ⊥ }
-    ensures load { result ≡ Status.LoadFault → ⊥ }
+    ensures load { result ≡ Outcome.LoadFault → ⊥ }
     ensures counts { (h i : ℕ)
         → Counts result (record { shelf = h; input = i; output = K.faults output.old })
         (record { shelf = h; input = i; output = K.faults output.new }) }
 {
     match compile(alloc, text) {
         Ok(program) => match run(&program, &[], BUDGET, output) {
-            Ok(machine) => Status::Done(exit_of(&machine)),
-            Err(_) => Status::WriteFault,
+            Ok(machine) => Outcome::Done(exit_of(&machine)),
+            Err(_) => Outcome::WriteFault,
         },
-        Err(Refused::NotYetBuilt) => Status::NotYetBuilt,
-        Err(Refused::OutOfMemory) => Status::OutOfMemory,
+        Err(Refused::NotYetBuilt) => Outcome::NotYetBuilt,
+        Err(Refused::OutOfMemory) => Outcome::OutOfMemory,
         Err(_) => unreachable!(),
     }
 }
 
-// The exit value of a machine that has exited.
+/// The exit value of a machine that has exited.
 fn exit_of(machine: &Machine) -> i32
     requires { (exit : ℤ) × (machine.now.stop ≡ Some (Stop.Exit exit)) }
     ensures { machine.now.stop ≡ Some (Stop.Exit result) }

@@ -1,4 +1,5 @@
-// The words of the command line, read by hand.
+//! The words of the command line, read by hand.
+
 ghost use Rattle.std.specs.Prelude.{◌≡◌, ◌≢◌, ◌↔◌, ◌∷◌, [], List, ℕ, map, string_bytes, MatchOption, IsTrue};
 ghost use Rattle.std.specs.Char.{IsAsciiDigit};
 ghost use Rattle.std.specs.List.{All};
@@ -41,7 +42,7 @@ pub fn command_of(words: &[String]) -> Option<Command>
     }
 }
 
-// What two words ask for, of which the second is a name.
+/// What two words ask for, of which the second is a name.
 fn of_two<'a>(first: &str, name: &'a str) -> Option<Command<'a>>
     requires { IsName name.now }
     ensures { MatchOption result
@@ -59,7 +60,7 @@ fn of_two<'a>(first: &str, name: &'a str) -> Option<Command<'a>>
     }
 }
 
-// What four words ask for, of which the second is a name.
+/// What four words ask for, of which the second is a name.
 fn of_four<'a>(first: &str, name: &'a str, option: &str, digits: &str) -> Option<Command<'a>>
     requires { IsName name.now }
     ensures { MatchOption result
@@ -80,7 +81,7 @@ fn of_four<'a>(first: &str, name: &'a str, option: &str, digits: &str) -> Option
     }
 }
 
-// The budget that the digits give.
+/// The budget that the digits give.
 fn budget_of(digits: &str) -> Option<u64>
     ensures { MatchOption result ((budget : ℕ) → IsBudget digits.now budget → ⊥)
         (IsBudget digits.now) }
@@ -100,14 +101,14 @@ fn budget_of(digits: &str) -> Option<u64>
     Some(budget)
 }
 
-// Whether a text is of digits alone.
+/// Whether a text is of digits alone.
 fn are_digits(text: &[u8]) -> bool
     ensures { IsTrue result ↔ All IsAsciiDigit text.now }
 {
     text.iter().all(|byte| byte.is_ascii_digit())
 }
 
-// Whether a word can be a name.
+/// Whether a word can be a name.
 fn is_name(name: &str) -> bool
     ensures { IsTrue result ↔ IsName name.now }
 {

@@ -105,7 +105,7 @@ fn nothing_is_evaluated_behind_an_undefined_act(rt: HostRuntime) -> Result<(), F
     Ok(())
 }
 
-// How a text ends within so many steps.
+/// How a text ends within so many steps.
 fn ended_within(alloc: Global, text: &str, steps: u64) -> Result<Status, Fail> {
     let budget = format!(in alloc; "{steps}")?;
     let words = ["mean", "p.c", "--budget", budget.as_str()];

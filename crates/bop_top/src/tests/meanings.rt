@@ -8,8 +8,8 @@ use c_tree::{Place, Undefined};
 use std::alloc::Global;
 use std::test::Fail;
 
-// A text, its input, the budget where one is named, and what is said of it: the status, the bytes
-// written and the line about the status.
+/// A text, its input, the budget where one is named, and what is said of it: the status, the bytes
+/// written and the line about the status.
 #[derive(Clone, Copy)]
 struct Row {
     text: &'static str,
@@ -204,7 +204,7 @@ fn a_meaning_is_reported(rt: HostRuntime) -> Result<(), Fail> {
     Ok(())
 }
 
-// So many bytes.
+/// So many bytes.
 fn bytes_of(alloc: Global, count: usize) -> Result<Vec<u8>, Fail> {
     let mut bytes = Vec::with_capacity(alloc, count)?;
     bytes.resize(count, b'i')?;

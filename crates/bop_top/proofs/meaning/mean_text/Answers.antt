@@ -26,7 +26,7 @@ returns-in-Err-clause-meant g c =
       written = [];
       takes = refused.1;
       writes = Appends-nil _;
-      transfers = unmeant_transfers c.in-Err.status c.args.text.now refused.0 _ refused.2;
-      says = λ told. unmeant_says c.args.steps c.args.text.now refused.0 c.requires c.in-Err.status refused.2;
-      counted = unmeant_untold c.in-Err.status c.args.text.now refused.0 refused.2;
+      transfers = unmeant_transfers c.in-Err.outcome c.args.text.now refused.0 _ refused.2;
+      says = λ told. unmeant_says c.args.steps c.args.text.now refused.0 c.requires c.in-Err.outcome refused.2;
+      counted = unmeant_untold c.in-Err.outcome c.args.text.now refused.0 refused.2;
     })

@@ -12,9 +12,9 @@ returns-in-Err-clause-meant g c =
       written = [];
       takes = Consumes-nil _;
       writes = Appends-nil _;
-      transfers = mean_stands _ _ _ c.in-Err.status refused;
-      says = unloaded_mean _ _ c.args.steps c.in-Err.status refused;
-      counted = unloaded_untold _ _ c.in-Err.status refused;
+      transfers = mean_stands _ _ _ c.in-Err.outcome refused;
+      says = unloaded_mean _ _ c.args.steps c.in-Err.outcome refused;
+      counted = unloaded_untold _ _ c.in-Err.outcome refused;
     })
 
 pub returns-in-Ok-clause-meant : goal.returns-in-Ok-clause-meant
@@ -27,7 +27,7 @@ returns-in-Ok-clause-meant g c =
       writes = meant.writes;
       transfers = meant.transfers;
       says = λ tells. subst
-          (λ f. MeanSays c.args.steps c.mean_text.result.status f meant.taken meant.written)
+          (λ f. MeanSays c.args.steps c.mean_text.result.outcome f meant.taken meant.written)
           (sym (c.in-Ok.ensures.text tells)) (meant.says tt);
       counted = meant.counted;
     }

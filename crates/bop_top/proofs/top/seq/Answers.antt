@@ -7,7 +7,7 @@ use Rattle.bop_top.proofs.top.seq.Goals as goal
 pub returns-in-Err-clause-says : goal.returns-in-Err-clause-says
 returns-in-Err-clause-says g c =
     let refused = c.in-Err.ensures.refused in
-    ([], Appends-nil _, seq_stands _ _ c.in-Err.status refused, λ tells. unloaded_seq _ _ c.in-Err.status refused tells)
+    ([], Appends-nil _, seq_stands _ _ c.in-Err.outcome refused, λ tells. unloaded_seq _ _ c.in-Err.outcome refused tells)
 
 pub returns-in-Ok-clause-says : goal.returns-in-Ok-clause-says
 returns-in-Ok-clause-says g c =
