@@ -4,13 +4,8 @@ ghost use Rattle.std.specs.Prelude.{◌≡◌, ◌≤◌, ℕ, List, Some, ⊤, 
 ghost use Rattle.std.specs.Io.KnownBytes.{Appends, Consumes};
 ghost use Rattle.byte_lists.specs.Content.{AppendsPrefix};
 ghost use Rattle.bop_ends.specs.Ends.{HasCause};
-ghost use Rattle.c_layout.specs.Laid.{plan};
-ghost use Rattle.c_layout.specs.LayoutAnswers.{plan_of};
 ghost use Rattle.c_meaning.specs.Answer.{meaning_of};
-ghost use Rattle.c_semantics.specs.Meaning.{meant};
 ghost use Rattle.c_semantics.specs.Outcome.{output_of};
-ghost use Rattle.c_tree.specs.Erase.{erased_text};
-ghost use Rattle.c_tree.specs.View.{items_of};
 ghost use Rattle.bop_top.specs.Headline.{Means, IsInput, IsUnmeant, HasPut, HasMeant, Counts, meaning_outcome};
 ghost use Rattle.bop_top.specs.declared.top.TheConstants.{TEXT_BYTES};
 
@@ -18,9 +13,8 @@ use crate::ending::Ending;
 use crate::input::read_input;
 use crate::outcome::{Outcome, outcome_of};
 use bop_ends::{Failed, Sink, Source};
-use c_layout::Layout;
 use c_meaning::{Meant, evaluate};
-use c_tree::{Checked, OutOfMemory, erase};
+use c_tree::OutOfMemory;
 use low_link::front;
 use std::alloc::Global;
 
@@ -70,34 +64,10 @@ fn meaning<S: Source>(
         Err(refused) => return Err(outcome_of(refused)),
     };
     let bytes = read_input(alloc, input)?;
-    match evaluate_erased(alloc, &checked, &layout, &bytes, steps) {
+    match evaluate(alloc, &checked, &layout, &bytes, steps) {
         Ok(meant) => Ok(meant),
         Err(OutOfMemory) => Err(Outcome::OutOfMemory),
     }
-}
-
-/// What a text means where each of its markers is the empty statement.
-fn evaluate_erased(
-    alloc: Global,
-    checked: &Checked,
-    layout: &Layout,
-    input: &[u8],
-    steps: u64,
-) -> Result<Meant, OutOfMemory>
-    requires { plan_of layout.now ≡ plan (items_of checked.now.tree) }
-    ensures { IfOk result (λ answer. meaning_of answer
-        ≡ meant (erased_text (items_of checked.now.tree)) input.now steps) }
-{
-    let bare = without_markers(alloc, checked)?;
-    evaluate(alloc, &bare, layout, input, steps)
-}
-
-/// The tree without its markers.
-fn without_markers(alloc: Global, checked: &Checked) -> Result<Checked, OutOfMemory>
-    ensures { IfOk result (λ bare. items_of bare.tree ≡ erased_text (items_of checked.now.tree)) }
-{
-    let bare = erase(alloc, checked.tree())?;
-    Ok(Checked::of(bare))
 }
 
 /// Hands the output of a meaning to the sink.

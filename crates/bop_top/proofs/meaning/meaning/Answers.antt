@@ -1,6 +1,7 @@
-use Rattle.std.proofs.Common.{sym}
+use Rattle.std.proofs.Common.{◌∙◌, sym}
 use Rattle.std.proofs.lemmas.Result.{err_from_is_err_and}
 use Rattle.c_tree.specs.View.{items_of}
+use Rattle.c_semantics.proofs.ErasedMeaning.{same_meaning}
 use Rattle.bop_top.proofs.Loads.{accepted_of, fine_of}
 use Rattle.bop_top.proofs.Meanings.{unread_unmeant}
 use Rattle.bop_top.proofs.meaning.meaning.Goals as goal
@@ -12,9 +13,9 @@ returns-in_err-bytes-clause-refused g c =
     let fine = fine_of c.args.text.now c.in-Ok.parts.0 c.in-Ok.parts.1 c.in-Ok.ensures in
     rw (p.1, p.2) (part.0, part.1, unread_unmeant c.in_err-bytes.field-0.0 c.args.text.now part.0 fine part.2)
 
-pub returns-in-Ok-evaluate_erased-clause-meant : goal.returns-in-Ok-evaluate_erased-clause-meant
-returns-in-Ok-evaluate_erased-clause-meant g c =
+pub returns-in-Ok-evaluate-clause-meant : goal.returns-in-Ok-evaluate-clause-meant
+returns-in-Ok-evaluate-clause-meant g c =
     let whole = c.in_ok-bytes.ensures.whole in
-    let same = sym (rw c.deref.ensures.value at c.in-Ok-evaluate_erased.ensures) in
+    let same = same_meaning (items_of c.in-Ok.parts.0.tree) _ c.args.steps ∙ sym (rw c.deref.ensures.value at c.in-Ok-evaluate.ensures) in
     let accepted = accepted_of c.args.text.now c.in-Ok.parts.0 c.in-Ok.parts.1 c.in-Ok.ensures in
     (_, whole.0, (items_of c.in-Ok.parts.0.tree, accepted, c.in-Ok.ensures.fits, same), whole.1)
