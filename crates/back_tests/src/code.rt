@@ -3,8 +3,8 @@
 use low_link::compile;
 use std::test::Fail;
 
-// As an assembler writes `addi a7, x0, 2`, `addi a0, x0, 65`, `ecall`, `lui a0, 1`,
-// `addi a0, a0, -2048`, `addi a7, x0, 0` and `ecall`.
+/// As an assembler writes `addi a7, x0, 2`, `addi a0, x0, 65`, `ecall`, `lui a0, 1`,
+/// `addi a0, a0, -2048`, `addi a7, x0, 0` and `ecall`.
 #[test]
 fn a_text_has_the_code_of_its_character_and_its_value(rt: HostRuntime) -> Result<(), Fail> {
     let text = b"int main(void){putchar('A');return 2048;}";

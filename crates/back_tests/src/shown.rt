@@ -173,14 +173,15 @@ fn action_text(alloc: Global, action: &Action) -> Result<String, Fail> {
             all.push_str("}")?;
             all
         }
-        Action::If(test, body) => {
-            let test = node_text(alloc, test)?;
-            format!(in alloc; "if {test} {}", action_text(alloc, body)?)?
-        }
-        Action::IfElse(test, body, other) => {
+        Action::If(test, body, other) => {
             let test = node_text(alloc, test)?;
             let body = action_text(alloc, body)?;
-            format!(in alloc; "if {test} {body} else {}", action_text(alloc, other)?)?
+            match other {
+                None => format!(in alloc; "if {test} {body}")?,
+                Some(other) => {
+                    format!(in alloc; "if {test} {body} else {}", action_text(alloc, other)?)?
+                }
+            }
         }
         Action::While(test, body) => {
             let test = node_text(alloc, test)?;

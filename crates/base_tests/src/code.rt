@@ -2,7 +2,7 @@
 
 use rv_code::{Instr, decode, encode};
 
-// As an assembler writes `addi x1, x0, 5`, `addi x10, x0, -1`, `lui x5, 0x12345` and `ecall`.
+/// As an assembler writes `addi x1, x0, 5`, `addi x10, x0, -1`, `lui x5, 0x12345` and `ecall`.
 #[test]
 fn known_words_are_read_and_written(rt: HostRuntime) {
     let rows = [

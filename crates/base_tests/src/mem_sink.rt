@@ -3,7 +3,7 @@
 use bop_ends::{MemSink, OutOfMemory, Sink};
 use std::test::Fail;
 
-// Whether each piece was taken.
+/// Whether each piece was taken.
 fn put<K: Sink>(sink: &mut K, pieces: &[&[u8]; 3]) -> [bool; 3] {
     let mut taken = [false; 3];
     for i in 0..3 {

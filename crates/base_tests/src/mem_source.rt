@@ -3,7 +3,7 @@
 use bop_ends::{MemSource, Source};
 use std::test::Fail;
 
-// How many bytes each read gave.
+/// How many bytes each read gave.
 fn counts<S: Source>(source: &mut S, into: &mut [u8]) -> [Option<usize>; 4] {
     let mut counts = [None; 4];
     for i in 0..4 {

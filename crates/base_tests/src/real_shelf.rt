@@ -5,8 +5,8 @@ use std::fs;
 use std::rt::Files;
 use std::test::Fail;
 
-// Removes the file and the folder of the test, where an earlier run has left them or this one
-// has made them.
+/// Removes the file and the folder of the test, where an earlier run has left them or this one
+/// has made them.
 fn clear<F: Files>(rt: &F) {
     let _ = fs::remove_file(rt, "a.c");
     let _ = fs::remove_dir(rt, "folder");

@@ -5,7 +5,7 @@ use std::io;
 use std::io::Write;
 use std::test::Fail;
 
-// Takes at most 2 bytes at once. When it is full it takes none, and then fails.
+/// Takes at most 2 bytes at once. When it is full it takes none, and then fails.
 #[derive(Drop)]
 struct Narrow {
     content: Vec<u8>,

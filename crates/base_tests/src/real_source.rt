@@ -5,7 +5,7 @@ use std::io;
 use std::io::Read;
 use std::test::Fail;
 
-// Fails at its first read, and has nothing left then.
+/// Fails at its first read, and has nothing left then.
 #[derive(Drop)]
 struct Broken {
     told: bool,

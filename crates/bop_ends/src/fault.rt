@@ -1,4 +1,4 @@
-// How the call of an end is refused.
+//! How the call of an end is refused.
 
 use std::alloc::{AllocError, AllocFailed};
 

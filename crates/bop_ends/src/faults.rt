@@ -1,4 +1,5 @@
-// How often an end has failed.
+//! How often an end has failed.
+
 ghost use Rattle.std.specs.Prelude.{◌≡◌, ◌≤◌};
 ghost use Rattle.bop_ends.specs.Ends.{RaisedOnce};
 

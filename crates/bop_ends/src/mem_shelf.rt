@@ -1,4 +1,5 @@
-// A shelf in memory, which fails as planned.
+//! A shelf in memory, which fails as planned.
+
 ghost use Rattle.std.specs.Prelude.{◌≡◌, ◌+◌, ◌-◌, ◌^◌, ◌≤◌, min, true, false, Err, IfOk, IsTrue, IsSome, IsNone, IsErrOf, IsOkUnless};
 ghost use Rattle.std.specs.Option.{option_copied};
 ghost use Rattle.bop_ends.specs.Files.{file_in};

@@ -1,4 +1,5 @@
-// A sink in memory, which fails as planned.
+//! A sink in memory, which fails as planned.
+
 ghost use Rattle.std.specs.Prelude.{◌≡◌, ◌↔◌, ◌++◌, ◌≤◌, [], Some, length, take, vec_len, vec_capacity, IfOk, IsOk, IsNone, OnErr};
 ghost use Rattle.bop_ends.specs.Ends.{AppendsPiece, HasCause, RaisedOnce};
 

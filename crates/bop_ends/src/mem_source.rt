@@ -1,4 +1,5 @@
-// A source in memory, which fails as planned.
+//! A source in memory, which fails as planned.
+
 ghost use Rattle.std.specs.Prelude.{◌≡◌, ◌↔◌, ◌++◌, ◌+◌, ◌-◌, ◌^◌, ◌≤◌, Some, drop, min, take, vec_len, if◌then◌else◌, IfOk, IsErr, IsTrue, OnErr};
 ghost use Rattle.std.specs.Io.{ReadsAtMost};
 ghost use Rattle.std.specs.Io.KnownBytes.{ReadConsumes};

@@ -1,4 +1,5 @@
-// A shelf over the files of the machine.
+//! A shelf over the files of the machine.
+
 ghost use Rattle.std.specs.Prelude.{◌≡◌, None, false, take, IfOk, IfSome, IsErrOf};
 ghost use Rattle.bop_ends.specs.Ends.{HasLoadCause, RaisedOnce};
 
@@ -30,7 +31,7 @@ impl<'a, F: Files> RealShelf<'a, F> {
     }
 }
 
-// Reads the first bytes that a reader has.
+/// Reads the first bytes that a reader has.
 fn read_front<R: Read + Drop>(alloc: Global, reader: R, most: usize) -> io::Result<Vec<u8>>
     ensures { IfOk result
         (λ bytes. IfSome (R.remaining reader) (λ left. bytes.items ≡ take most left)) }

@@ -1,4 +1,5 @@
-// A sink over a writer of std.
+//! A sink over a writer of std.
+
 ghost use Rattle.std.specs.Prelude.{◌≡◌, OnErr};
 ghost use Rattle.bop_ends.specs.Ends.{AppendsPiece, HasCause, RaisedOnce};
 
@@ -29,7 +30,7 @@ impl<W: Write> RealSink<W> {
     }
 }
 
-// Writes a piece to its end. A write that takes nothing of it is a failure.
+/// Writes a piece to its end. A write that takes nothing of it is a failure.
 fn write_whole<W: Write>(writer: &mut W, piece: &[u8]) -> Result<(), Failed>
     ensures { AppendsPiece (W.contents writer.old) (W.contents writer.new) result piece.now }
 {

@@ -1,4 +1,5 @@
-// Where files stand.
+//! Where files stand.
+
 ghost use Rattle.std.specs.Prelude.{◌≡◌, ℕ, List, Option, Bool, IsTrue, IfOk};
 ghost use Rattle.bop_ends.specs.Ends.{HasLoadCause, IsFront};
 

@@ -1,4 +1,5 @@
-// Where bytes go.
+//! Where bytes go.
+
 ghost use Rattle.std.specs.Prelude.{ℕ, List, Option};
 ghost use Rattle.bop_ends.specs.Ends.{HasCause, AppendsPiece};
 

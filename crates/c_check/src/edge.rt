@@ -1,9 +1,9 @@
 //! The edges of regions, in the order of the text.
 
 ghost use Rattle.std.specs.Prelude.{◌≡◌, ◌++◌, ◌∷◌, [], map, option_map, IfOk, OnOk, None};
-ghost use Rattle.c_tree.specs.Regions.{edge, edges, body_edges, function_edges, text_edges};
-ghost use Rattle.c_tree.specs.View.{boxed_stmt_of, stmt_of, stmts_of, item_of};
-ghost use Rattle.c_check.specs.private.Parts.{else_edges, part_edges};
+ghost use Rattle.c_tree.specs.Regions.{edge, edges, else_edges, body_edges, function_edges, text_edges};
+ghost use Rattle.c_tree.specs.View.{boxed_stmt_of, else_of, stmt_of, stmts_of, item_of};
+ghost use Rattle.c_check.specs.private.Parts.{part_edges};
 
 use c_tree::{Edge, Item, Marker, OutOfMemory, Place, Stmt, StmtKind};
 use std::alloc::Global;
@@ -59,7 +59,7 @@ fn gather(s: &Stmt, block: Option<Place>, found: &mut Vec<Edge>) -> Result<(), O
 #[cycle(gather)]
 fn gather_else(other: &Option<Box<Stmt>>, found: &mut Vec<Edge>) -> Result<(), OutOfMemory>
     ensures { OnOk result (found.new.items
-        ≡ found.old.items ++ else_edges (option_map boxed_stmt_of other.now)) }
+        ≡ found.old.items ++ else_edges (else_of boxed_stmt_of other.now)) }
 {
     match other {
         None => Ok(()),

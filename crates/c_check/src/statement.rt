@@ -6,11 +6,11 @@ ghost use Rattle.c_tree.specs.Breaches.{may_take};
 ghost use Rattle.c_tree.specs.Rules.{is_nought};
 ghost use Rattle.c_tree.specs.Scope.{entered};
 ghost use Rattle.c_tree.specs.Shapes.{is_void};
-ghost use Rattle.c_tree.specs.Statements.{behind, behind_beginning, test_breaches, optional_test_breaches, unused_breaches, beginning_breaches, return_breaches, statement_breaches, body_breaches};
-ghost use Rattle.c_tree.specs.View.{expr_of, ty_of, first_of, boxed_stmt_of, stmt_of, stmts_of};
+ghost use Rattle.c_tree.specs.Statements.{behind, behind_beginning, test_breaches, optional_test_breaches, unused_breaches, beginning_breaches, return_breaches, statement_breaches, else_breaches, body_breaches};
+ghost use Rattle.c_tree.specs.View.{expr_of, ty_of, first_of, boxed_stmt_of, else_of, stmt_of, stmts_of};
 ghost use Rattle.c_types.specs.Env.{scope_of};
 ghost use Rattle.c_types.specs.Seen.{seen_some};
-ghost use Rattle.c_check.specs.private.Parts.{else_breaches, head_breaches};
+ghost use Rattle.c_check.specs.private.Parts.{head_breaches};
 
 use crate::declarator::check_declarators;
 use crate::marker::check_marker;
@@ -225,7 +225,7 @@ fn check_else(
     ensures scope { OnOk result (scope_of env.new ≡ scope_of env.old) }
     ensures least { OnOk result
         (Adds least.old least.new
-        (else_breaches (ty_of gives.now) in_loop (option_map boxed_stmt_of other.now)
+        (else_breaches (ty_of gives.now) in_loop (else_of boxed_stmt_of other.now)
         (scope_of env.old))) }
 {
     match other {

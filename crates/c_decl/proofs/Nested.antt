@@ -40,7 +40,7 @@ turns_same step step' h (suc n) x ts = both_same (turn (turns step n)) (turn (tu
 module _ (p q : ℕ → List Token → Outcome Stmt) (top : ℕ) (like : (r : ℕ) (ts : List Token) → r ≤ top → p r ts ≡ q r ts) where
   else_same : (here : Bool) (x : Expr) (s : Stmt) (place : Place) (r : ℕ) (ts : List Token)
       → r ≤ top → else_part_by p here x s place r ts ≡ else_part_by q here x s place r ts
-  else_same true x s place r ts low = bind_same (take r ts) _ _ (λ u. ap (λ o. o >>= λ t. Ok (stmt.IfElse x s t.0 place, t.1)) (like r u.1 low))
+  else_same true x s place r ts low = bind_same (take r ts) _ _ (λ u. ap (λ o. o >>= λ t. Ok (stmt.If x s (stmt.Else t.0) place, t.1)) (like r u.1 low))
   else_same false x s place r ts low = refl
 
   if_same : (r : ℕ) (ts : List Token) → r ≤ top → if_stmt p r ts ≡ if_stmt q r ts

@@ -37,15 +37,15 @@ block_of l p _ _ (left q h) = g.block (g.braces p q h)
 
 if_of : (o : Bool) (l : ℕ) (p : Place) (a b : List Leveled) (x : Expr) (s : Stmt)
     → IsTest (suc l) a x → IsStatement o (suc l) b s
-    → IsStatement true l (at (suc l) (word (codes "if")) p ∷ (a ++ b)) (stmt.If x s p)
+    → IsStatement true l (at (suc l) (word (codes "if")) p ∷ (a ++ b)) (stmt.If x s stmt.NoElse p)
 if_of o l p _ b x s (test {a = a} q r h) i =
-    subst (λ c. IsStatement true l (at (suc l) (word (codes "if")) p ∷ (at (suc l) (sign (codes "(")) q ∷ c)) (stmt.If x s p)) (sym (append_assoc a (at (suc l) (sign (codes ")")) r ∷ []) b)) (g.if q r h i)
+    subst (λ c. IsStatement true l (at (suc l) (word (codes "if")) p ∷ (at (suc l) (sign (codes "(")) q ∷ c)) (stmt.If x s stmt.NoElse p)) (sym (append_assoc a (at (suc l) (sign (codes ")")) r ∷ []) b)) (g.if q r h i)
 
 if_else_of : (o : Bool) (l : ℕ) (p e : Place) (a b c : List Leveled) (x : Expr) (s t : Stmt)
     → IsTest (suc l) a x → IsStatement false (suc l) b s → IsStatement o (suc l) c t
-    → IsStatement o l (at (suc l) (word (codes "if")) p ∷ (a ++ (b ++ at (suc l) (word (codes "else")) e ∷ c))) (stmt.IfElse x s t p)
+    → IsStatement o l (at (suc l) (word (codes "if")) p ∷ (a ++ (b ++ at (suc l) (word (codes "else")) e ∷ c))) (stmt.If x s (stmt.Else t) p)
 if_else_of o l p e _ b c x s t (test {a = a} q r h) i j =
-    subst (λ d. IsStatement o l (at (suc l) (word (codes "if")) p ∷ (at (suc l) (sign (codes "(")) q ∷ d)) (stmt.IfElse x s t p)) (sym (append_assoc a (at (suc l) (sign (codes ")")) r ∷ []) (b ++ at (suc l) (word (codes "else")) e ∷ c))) (g.if_else q r e h i j)
+    subst (λ d. IsStatement o l (at (suc l) (word (codes "if")) p ∷ (at (suc l) (sign (codes "(")) q ∷ d)) (stmt.If x s (stmt.Else t) p)) (sym (append_assoc a (at (suc l) (sign (codes ")")) r ∷ []) (b ++ at (suc l) (word (codes "else")) e ∷ c))) (g.if_else q r e h i j)
 
 while_of : (o : Bool) (l : ℕ) (p : Place) (a b : List Leveled) (x : Expr) (s : Stmt)
     → IsTest (suc l) a x → IsStatement o (suc l) b s
@@ -128,10 +128,10 @@ module _ (I : Type 0) (m f : ℕ) (f' : I → ℕ) (statements : StatementLaw I 
       → Lawful m (λ d z us. ReadStatement l (at (suc l) (word (codes "if")) p ∷ (a ++ (b ++ d))) z us) (λ i. else_part (statement (f' i)) x s p (r' i)) rest (else_part (statement f) x s p r rest)
   else_law p a b x s rest h j = choose (λ i c b. else_part_by (statement (f' i)) c x s p (r' i) b) (λ c. else_part_by (statement f) c x s p r rest) (word (codes "else")) rest refl
       (λ is. take_law (λ i. else_part (statement (f' i)) x s p (r' i)) _ _ m (suc l) r r' (word (codes "else")) rest room enough is (λ e. cc) (λ i p b. refl) (λ e us.
-      bind_law (λ i t. Ok (stmt.IfElse x s t.0 p, t.1)) (λ t. Ok (stmt.IfElse x s t.0 p, t.1)) (statements (suc l) r r' us room deep wide) (λ t vs c w cut.
-      pure_law (stmt.IfElse x s t p) vs (ended (λ d z. ReadStatement l (at (suc l) (word (codes "if")) p ∷ (a ++ (b ++ at (suc l) (word (codes "else")) e ∷ d))) z vs)
+      bind_law (λ i t. Ok (stmt.If x s (stmt.Else t.0) p, t.1)) (λ t. Ok (stmt.If x s (stmt.Else t.0) p, t.1)) (statements (suc l) r r' us room deep wide) (λ t vs c w cut.
+      pure_law (stmt.If x s (stmt.Else t) p) vs (ended (λ d z. ReadStatement l (at (suc l) (word (codes "if")) p ∷ (a ++ (b ++ at (suc l) (word (codes "else")) e ∷ d))) z vs)
       (record { open_if = w.open_if; spelled = if_else_of w.open_if l p e a b c x s t h (subst (λ o. IsStatement o (suc l) b s) (j.no_else is) j.spelled) w.spelled; no_else = w.no_else })))))
-      (λ other. pure_law (stmt.If x s p) rest (ended (λ d z. ReadStatement l (at (suc l) (word (codes "if")) p ∷ (a ++ d)) z rest)
+      (λ other. pure_law (stmt.If x s stmt.NoElse p) rest (ended (λ d z. ReadStatement l (at (suc l) (word (codes "if")) p ∷ (a ++ d)) z rest)
       (record { open_if = true; spelled = if_of j.open_if l p a b x s h j.spelled; no_else = λ e. ap (λ c. same c (word (codes "else"))) (sym e) ∙ other })))
 
   if_law : kind_of ts ≡ word (codes "if")

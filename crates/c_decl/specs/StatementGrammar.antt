@@ -80,7 +80,7 @@ mutual
         → IsAssign (suc l) a x → IsStatement open_if (suc l) b s
         → IsStatement true l (at (suc l) (word (codes "if")) p
         ∷ (at (suc l) (sign (codes "(")) q ∷ (a ++ at (suc l) (sign (codes ")")) r ∷ b)))
-        (the_stmt.If x s p)
+        (the_stmt.If x s the_stmt.NoElse p)
     if_else : {open_if : Bool} {l : ℕ} {p : Place} {a b c : List Leveled} {x : Expr} {s t : Stmt}
         (q r e : Place)
         → IsAssign (suc l) a x → IsStatement false (suc l) b s → IsStatement open_if (suc l) c t
@@ -89,7 +89,7 @@ mutual
         ∷ (at (suc l) (sign (codes "(")) q
         ∷ (a ++ at (suc l) (sign (codes ")")) r
         ∷ (b ++ at (suc l) (word (codes "else")) e ∷ c))))
-        (the_stmt.IfElse x s t p)
+        (the_stmt.If x s (the_stmt.Else t) p)
     while : {open_if : Bool} {l : ℕ} {p : Place} {a b : List Leveled} {x : Expr} {s : Stmt}
         (q r : Place)
         → IsAssign (suc l) a x → IsStatement open_if (suc l) b s

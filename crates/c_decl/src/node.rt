@@ -54,7 +54,8 @@ pub(crate) fn build_if(
     then: Stmt,
     place: Place,
 ) -> Result<Stmt, OutOfMemory>
-    ensures { IfOk result (λ s. stmt_of s ≡ stmt.If (expr_of test) (stmt_of then) place) }
+    ensures { IfOk result (λ s. stmt_of s
+        ≡ stmt.If (expr_of test) (stmt_of then) stmt.NoElse place) }
 {
     let kind = StmtKind::If(test, Box::new(alloc, then)?, None);
     Ok(Stmt { kind, place })
@@ -69,7 +70,7 @@ pub(crate) fn build_if_else(
     place: Place,
 ) -> Result<Stmt, OutOfMemory>
     ensures { IfOk result (λ s. stmt_of s
-        ≡ stmt.IfElse (expr_of test) (stmt_of then) (stmt_of other) place) }
+        ≡ stmt.If (expr_of test) (stmt_of then) (stmt.Else (stmt_of other)) place) }
 {
     let then = Box::new(alloc, then)?;
     let other = Box::new(alloc, other)?;

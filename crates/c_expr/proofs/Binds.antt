@@ -3,13 +3,15 @@ use Rattle.std.proofs.Common.{◌≡◌, ◌<◌, ◌≤◌, ℕ, List, [], ◌�
 use Rattle.std.specs.Prelude.{◌==◌, if◌then◌else◌, codes}
 use Rattle.c_tree.specs.Ty.{Ty}
 use Rattle.c_tree.specs.declared.operator.Binary.{Binary}
-use Rattle.c_tree.specs.declared.operator.Binary.TheVariants as b
+use Rattle.c_tree.specs.declared.operator.Group.{Group}
+use Rattle.c_tree.specs.declared.operator.Group.TheVariants as by
 use Rattle.c_tree.specs.declared.operator.Step.{Step}
 use Rattle.c_tree.specs.declared.operator.Unary.{Unary}
 use Rattle.c_tree.specs.declared.tree.Callee.{Callee}
 use Rattle.c_token.specs.declared.token.Kind.{Kind}
 use Rattle.c_token.specs.declared.token.Kind.TheVariants as k
-use Rattle.c_expr.specs.Spelled.{sign, same, find, assign_op, binary_op, rank, unary_op, first_step, last_step, builtin, plain_base, assign_ops, binary_ops, first_steps, last_steps, builtins, plain_bases}
+use Rattle.c_tree.specs.Groups.{group}
+use Rattle.c_expr.specs.Spelled.{sign, same, find, assign_op, binary_op, rank, group_rank, unary_op, first_step, last_step, builtin, plain_base, assign_ops, binary_ops, first_steps, last_steps, builtins, plain_bases}
 use Rattle.c_expr.specs.Next.{begins, begins_by, operand_by, is_eof, opens, is_base, is_base_by, is_unsigned}
 use Rattle.c_expr.specs.private.ExpressionReading.{of_rank, operator_of}
 use Rattle.c_expr.proofs.KindWords.{same_is}
@@ -41,25 +43,21 @@ binds_by false None false None false None = 13
 abbrev pub binds : Kind → ℕ
 binds kind = binds_by (same kind (sign (codes "["))) (last_step kind) (opens kind) (binary_op kind) (same kind (sign (codes "?"))) (assign_op kind)
 
+group_most : (g : Group) → group_rank g ≤ 10
+group_most by.Or = omega arith
+group_most by.And = omega arith
+group_most by.BitOr = omega arith
+group_most by.BitXor = omega arith
+group_most by.BitAnd = omega arith
+group_most by.Equality = omega arith
+group_most by.Order = omega arith
+group_most by.Shift = omega arith
+group_most by.Sum = omega arith
+group_most by.Difference = omega arith
+group_most by.Product = omega arith
+
 rank_most : (op : Binary) → rank op ≤ 10
-rank_most b.Or = omega arith
-rank_most b.And = omega arith
-rank_most b.BitOr = omega arith
-rank_most b.BitXor = omega arith
-rank_most b.BitAnd = omega arith
-rank_most b.Equal = omega arith
-rank_most b.Unequal = omega arith
-rank_most b.Less = omega arith
-rank_most b.Greater = omega arith
-rank_most b.LessEqual = omega arith
-rank_most b.GreaterEqual = omega arith
-rank_most b.Left = omega arith
-rank_most b.Right = omega arith
-rank_most b.Plus = omega arith
-rank_most b.Minus = omega arith
-rank_most b.Times = omega arith
-rank_most b.Divide = omega arith
-rank_most b.Rest = omega arith
+rank_most op = group_most (group op)
 
 -- where nothing more is read
 pub no_assign : (kind : Kind) → 12 < binds kind → assign_op kind ≡ None

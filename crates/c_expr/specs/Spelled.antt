@@ -3,12 +3,15 @@ use Rattle.std.specs.Prelude.{ℕ, Bool, false, if◌then◌else◌, List, [], �
 use Rattle.std.specs.Str.{bytes_eq}
 use Rattle.c_tree.specs.declared.operator.Binary.{Binary}
 use Rattle.c_tree.specs.declared.operator.Binary.TheVariants as b
+use Rattle.c_tree.specs.declared.operator.Group.{Group}
+use Rattle.c_tree.specs.declared.operator.Group.TheVariants as by
 use Rattle.c_tree.specs.declared.operator.Step.{Step}
 use Rattle.c_tree.specs.declared.operator.Step.TheVariants as s
 use Rattle.c_tree.specs.declared.operator.Unary.{Unary}
 use Rattle.c_tree.specs.declared.operator.Unary.TheVariants as u
 use Rattle.c_tree.specs.declared.tree.Callee.{Callee}
 use Rattle.c_tree.specs.declared.tree.Callee.TheVariants as c
+use Rattle.c_tree.specs.Groups.{group}
 use Rattle.c_tree.specs.Ty.{Ty}
 use Rattle.c_tree.specs.Ty as ty
 use Rattle.c_token.specs.declared.token.Kind.{Kind}
@@ -87,25 +90,21 @@ land = 9
 abbrev pub lor : ℕ
 lor = 10
 
+abbrev pub group_rank : Group → ℕ
+group_rank by.Or = lor
+group_rank by.And = land
+group_rank by.BitOr = bor
+group_rank by.BitXor = bxor
+group_rank by.BitAnd = band
+group_rank by.Equality = equal
+group_rank by.Order = order
+group_rank by.Shift = shift
+group_rank by.Sum = sum
+group_rank by.Difference = sum
+group_rank by.Product = mul
+
 abbrev pub rank : Binary → ℕ
-rank b.Or = lor
-rank b.And = land
-rank b.BitOr = bor
-rank b.BitXor = bxor
-rank b.BitAnd = band
-rank b.Equal = equal
-rank b.Unequal = equal
-rank b.Less = order
-rank b.Greater = order
-rank b.LessEqual = order
-rank b.GreaterEqual = order
-rank b.Left = shift
-rank b.Right = shift
-rank b.Plus = sum
-rank b.Minus = sum
-rank b.Times = mul
-rank b.Divide = mul
-rank b.Rest = mul
+rank op = group_rank (group op)
 
 -- unary operators (C11 6.5.3.2 and 6.5.3.3)
 abbrev pub unary_ops : List (Kind × Unary)

@@ -7,7 +7,7 @@ ghost use Rattle.c_expr.specs.Spelled.{same};
 ghost use Rattle.c_expr.specs.Next.{kind_of};
 
 use c_token::{Kind, Token};
-use c_tree::{Binary, Step, Unary};
+use c_tree::{Binary, Group, Step, Unary};
 
 /// Whether the next token is the sign of these bytes.
 pub fn is_sign(rest: &[Token], bytes: [u8; 3]) -> bool
@@ -121,17 +121,17 @@ fn binary_op_of(bytes: [u8; 3]) -> Option<Binary>
 pub(crate) fn rank(operator: Binary) -> u32
     ensures { result ≡ spelled.rank operator }
 {
-    match operator {
-        Binary::Or => 10,
-        Binary::And => 9,
-        Binary::BitOr => 8,
-        Binary::BitXor => 7,
-        Binary::BitAnd => 6,
-        Binary::Equal | Binary::Unequal => 5,
-        Binary::Less | Binary::Greater | Binary::LessEqual | Binary::GreaterEqual => 4,
-        Binary::Left | Binary::Right => 3,
-        Binary::Plus | Binary::Minus => 2,
-        Binary::Times | Binary::Divide | Binary::Rest => 1,
+    match operator.group() {
+        Group::Or => 10,
+        Group::And => 9,
+        Group::BitOr => 8,
+        Group::BitXor => 7,
+        Group::BitAnd => 6,
+        Group::Equality => 5,
+        Group::Order => 4,
+        Group::Shift => 3,
+        Group::Sum | Group::Difference => 2,
+        Group::Product => 1,
     }
 }
 

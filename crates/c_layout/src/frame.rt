@@ -1,10 +1,9 @@
 //! The frame of a function.
 
 ghost use Rattle.std.specs.Prelude.{◌≡◌, ◌≤◌, ◌++◌, true, false, nat_lt, map, option_map, IfOk, OnOk, MatchOption};
-ghost use Rattle.c_tree.specs.View.{var_of, first_of, stmt_of, stmts_of, boxed_stmt_of, param_of};
+ghost use Rattle.c_tree.specs.View.{var_of, first_of, stmt_of, stmts_of, boxed_stmt_of, else_of, param_of};
 ghost use Rattle.c_layout.specs.private.Capped.{narrow};
-ghost use Rattle.c_layout.specs.private.Forks.{else_locals};
-ghost use Rattle.c_layout.specs.Frames.{beginning_locals, locals, body_locals, room_of, room_of_parameter, rooms, offsets_from, end_from, frame_of};
+ghost use Rattle.c_layout.specs.Frames.{beginning_locals, locals, else_locals, body_locals, room_of, room_of_parameter, rooms, offsets_from, end_from, frame_of};
 ghost use Rattle.c_layout.specs.LayoutAnswers.{planned_of};
 
 use crate::limits::{FRAME_BYTES, WIDE};
@@ -57,7 +56,7 @@ fn push_first(first: &First, out: &mut Vec<u32>) -> Result<(), OutOfMemory>
 fn push_else(other: &Option<Box<Stmt>>, out: &mut Vec<u32>) -> Result<(), OutOfMemory>
     ensures { OnOk result (out.new.items
         ≡ out.old.items ++ map narrow
-        (map room_of (else_locals (option_map boxed_stmt_of other.now)))) }
+        (map room_of (else_locals (else_of boxed_stmt_of other.now)))) }
 {
     match other {
         None => Ok(()),
@@ -66,7 +65,7 @@ fn push_else(other: &Option<Box<Stmt>>, out: &mut Vec<u32>) -> Result<(), OutOfM
 }
 
 #[cycle(statements)]
-#[tactic(auto, using(c_tree::proofs::ViewLemmas::views, crate::proofs::ForksLemmas::forks))]
+#[tactic(auto, using(c_tree::proofs::ViewLemmas::views))]
 fn push_stmt(s: &Stmt, out: &mut Vec<u32>) -> Result<(), OutOfMemory>
     ensures { OnOk result (out.new.items
         ≡ out.old.items ++ map narrow (map room_of (locals (stmt_of s.now)))) }

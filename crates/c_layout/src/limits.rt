@@ -1,4 +1,4 @@
-// Limits that no layout comes to. What is computed of a tree stops there, so that no sum overflows.
+//! Limits that no layout comes to. What is computed of a tree stops there, so that no sum overflows.
 
 /// More than any address, and more than the size of any object that has one.
 pub(crate) const FAR: u32 = 8_388_608;

@@ -3,11 +3,10 @@
 ghost use Rattle.std.specs.Prelude.{◌≡◌, ◌+◌, ◌<◌, ◌≤◌, max, map, option_map, MatchOption, if◌then◌else◌};
 ghost use Rattle.std.specs.Option.{option_copied};
 ghost use Rattle.c_tree.specs.declared.tree.Expr.{size-Expr};
-ghost use Rattle.c_tree.specs.Constant.{is_logic};
-ghost use Rattle.c_tree.specs.View.{expr_of, exprs_of, init_of, var_of, first_of, stmt_of, stmts_of, boxed_stmt_of};
+ghost use Rattle.c_tree.specs.Groups.{group, is_logic};
+ghost use Rattle.c_tree.specs.View.{expr_of, exprs_of, init_of, var_of, first_of, stmt_of, stmts_of, boxed_stmt_of, else_of};
 ghost use Rattle.c_layout.specs.private.Capped.{few};
-ghost use Rattle.c_layout.specs.Slots.{slots, slots_from, most, optional, init_slots, declarators_slots, beginning_slots, statement_slots, body_slots};
-ghost use Rattle.c_layout.specs.private.Forks.{else_slots};
+ghost use Rattle.c_layout.specs.Slots.{slots, slots_from, most, optional, init_slots, declarators_slots, beginning_slots, statement_slots, else_slots, body_slots};
 
 use crate::limits::MANY;
 use c_tree::{Binary, Expr, ExprKind, First, Init, Stmt, StmtKind, Var};
@@ -17,12 +16,6 @@ use c_tree::{Binary, Expr, ExprKind, First, Init, Stmt, StmtKind, Var};
 struct Parted<'a> {
     beside: u32,
     first: Option<&'a Expr>,
-}
-
-fn is_logic(op: Binary) -> bool
-    ensures { result ≡ is_logic op }
-{
-    matches!(op, Binary::And | Binary::Or)
 }
 
 /// The slots of an operand while another value is kept.
@@ -36,9 +29,9 @@ fn behind_one(slots: u32) -> u32
 /// The slots of a right operand.
 fn right(op: Binary, slots: u32) -> u32
     requires { slots ≤ MANY }
-    ensures { result ≡ few (if is_logic op then slots else 1 + slots) }
+    ensures { result ≡ few (if is_logic (group op) then slots else 1 + slots) }
 {
-    if is_logic(op) {
+    if op.group().is_logic() {
         slots
     } else {
         behind_one(slots)
@@ -188,7 +181,7 @@ fn first_slots(first: &First) -> u32
 
 #[cycle(statements)]
 fn else_slots(other: &Option<Box<Stmt>>) -> u32
-    ensures { result ≡ few (else_slots (option_map boxed_stmt_of other.now)) }
+    ensures { result ≡ few (else_slots (else_of boxed_stmt_of other.now)) }
 {
     match other {
         None => 0,
@@ -197,7 +190,7 @@ fn else_slots(other: &Option<Box<Stmt>>) -> u32
 }
 
 #[cycle(statements)]
-#[tactic(auto, using(c_tree::proofs::ViewLemmas::views, crate::proofs::ForksLemmas::forks))]
+#[tactic(auto, using(c_tree::proofs::ViewLemmas::views))]
 fn stmt_slots(s: &Stmt) -> u32
     ensures { result ≡ few (statement_slots (stmt_of s.now)) }
 {

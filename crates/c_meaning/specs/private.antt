@@ -3,7 +3,6 @@ pub mod Acts
 pub mod Called
 pub mod EvaluatorState
 pub mod Opened
-pub mod Outcomes
 pub mod Pending
 pub mod Started
 pub mod Turned

@@ -2,33 +2,17 @@
 
 ghost use Rattle.std.specs.Prelude.{◌≡◌, ◌||◌, ◌&&◌, ◌≤◌, ◌%◌, ◌^◌, ℕ, ℤ, pos, not, true, ◌+ℤ◌, ◌*ℤ◌, ◌-ℤ◌, neg_ℤ, nat_abs, int_div, FitsSigned, IfSome};
 ghost use Rattle.std.specs.Int.{w32, w64, cast_unsigned};
-ghost use Rattle.c_tree.specs.Constant.{is_shift};
 ghost use Rattle.c_tree.specs.Arithmetic.{unary_word};
 ghost use Rattle.c_meaning.specs.private.Acts.{stepped_at};
-ghost use Rattle.c_semantics.specs.Eval.{binary_act, combined, assigned, arithmetic, sum, difference, other_act, compared, is_unsigned, is_order, amount, step_operator, step_value, outcome, getchar, put};
+ghost use Rattle.c_semantics.specs.Eval.{binary_act, combined, assigned, arithmetic, sum, difference, other_act, compared, is_unsigned, amount, step_operator, step_value, outcome, getchar, put};
 ghost use Rattle.c_meaning.specs.private.EvaluatorState.{Ran, SameSteps};
 ghost use Rattle.c_semantics.specs.Pointers.{along, moved, distance};
 
-use crate::arithmetic::{binary_word, unary_word};
 use crate::halt::Halt;
 use crate::machine::Machine;
 use c_semantics::{Held, Operand};
-use c_tree::{Binary, Place, Step, Unary, Undefined};
-
-fn is_shift(op: Binary) -> bool
-    ensures { result ≡ is_shift op }
-{
-    matches!(op, Binary::Left | Binary::Right)
-}
-
-fn is_order(op: Binary) -> bool
-    ensures { result ≡ is_order op }
-{
-    matches!(
-        op,
-        Binary::Less | Binary::Greater | Binary::LessEqual | Binary::GreaterEqual
-    )
-}
+use c_tree::{Binary, Group, Place, Step, Unary, Undefined};
+use c_types::{binary_word, unary_word};
 
 /// What `++` or `--` does with a value and 1.
 fn operator_of(how: Step) -> Binary
@@ -112,7 +96,7 @@ impl Machine {
     ) -> Result<u32, Halt>
         ensures { Ran (arithmetic op c d x y at) self.now self.now result }
     {
-        let unsigned = c.is_unsigned() || !is_shift(op) && d.is_unsigned();
+        let unsigned = c.is_unsigned() || !op.group().is_shift() && d.is_unsigned();
         match binary_word(op, unsigned, x, y) {
             Ok(value) => Ok(value),
             Err(act) => Err(Halt::Undefined(act, at)),
@@ -157,7 +141,7 @@ impl Machine {
     fn compare(&self, op: Binary, x: u32, y: u32, at: Place) -> Result<u32, Halt>
         ensures { Ran (compared op x y at) self.now self.now result }
     {
-        if is_order(op) && !self.memory.along(u64::from(x), i64::from(y)) {
+        if op.group().is_order() && !self.memory.along(u64::from(x), i64::from(y)) {
             return Err(Halt::Undefined(Undefined::Pointer, at));
         }
         match binary_word(op, true, x, y) {
@@ -167,23 +151,37 @@ impl Machine {
     }
 
     /// `x + y`, where one may be a pointer.
-    fn sum(&self, c: Operand, d: Operand, x: u32, y: u32, at: Place) -> Result<u32, Halt>
-        ensures { Ran (sum c d x y at) self.now self.now result }
+    fn sum(
+        &self,
+        op: Binary,
+        c: Operand,
+        d: Operand,
+        x: u32,
+        y: u32,
+        at: Place,
+    ) -> Result<u32, Halt>
+        ensures { Ran (sum op c d x y at) self.now self.now result }
     {
         match c {
             Operand::Pointer(size) => self.move_pointer(size, elements_of(d, y), x, at),
             Operand::Signed | Operand::Unsigned => match d {
                 Operand::Pointer(size) => self.move_pointer(size, elements_of(c, x), y, at),
-                Operand::Signed | Operand::Unsigned => {
-                    self.arithmetic(Binary::Plus, c, d, x, y, at)
-                }
+                Operand::Signed | Operand::Unsigned => { self.arithmetic(op, c, d, x, y, at) }
             },
         }
     }
 
     /// `x - y`, where x may be a pointer, or both.
-    fn difference(&self, c: Operand, d: Operand, x: u32, y: u32, at: Place) -> Result<u32, Halt>
-        ensures { Ran (difference c d x y at) self.now self.now result }
+    fn difference(
+        &self,
+        op: Binary,
+        c: Operand,
+        d: Operand,
+        x: u32,
+        y: u32,
+        at: Place,
+    ) -> Result<u32, Halt>
+        ensures { Ran (difference op c d x y at) self.now self.now result }
     {
         match c {
             Operand::Pointer(size) => match d {
@@ -192,9 +190,7 @@ impl Machine {
                     self.move_pointer(size, elements_of(d, y).back(), x, at)
                 }
             },
-            Operand::Signed | Operand::Unsigned => {
-                self.arithmetic(Binary::Minus, c, d, x, y, at)
-            }
+            Operand::Signed | Operand::Unsigned => { self.arithmetic(op, c, d, x, y, at) }
         }
     }
 
@@ -228,9 +224,9 @@ impl Machine {
     ) -> Result<u32, Halt>
         ensures { Ran (binary_act op c d x y at) self.now self.now result }
     {
-        match op {
-            Binary::Plus => self.sum(c, d, x, y, at),
-            Binary::Minus => self.difference(c, d, x, y, at),
+        match op.group() {
+            Group::Sum => self.sum(op, c, d, x, y, at),
+            Group::Difference => self.difference(op, c, d, x, y, at),
             _ => self.other_act(op, c, d, x, y, at),
         }
     }

@@ -1,7 +1,6 @@
 //! Tasks that plan other work, by the values that are at hand.
 
 ghost use Rattle.std.specs.Prelude.{◌≡◌};
-ghost use Rattle.c_tree.specs.Constant.{decides};
 ghost use Rattle.c_meaning.specs.private.Turned.{Does, DoesAtOnce};
 ghost use Rattle.c_semantics.specs.declared.flow.Flow.TheVariants.{Normal};
 ghost use Rattle.c_meaning.specs.declared.pending.Task.TheVariants as task;
@@ -15,17 +14,6 @@ use c_resolve::{Action, Begun, Node, Passed};
 use c_semantics::Flow;
 use c_tree::Binary;
 
-/// Whether the left operand of `&&` or `||` decides.
-fn decides(op: Binary, value: u32) -> bool
-    ensures { result ≡ decides op value }
-{
-    match op {
-        Binary::And => value == 0,
-        Binary::Or => value != 0,
-        _ => false,
-    }
-}
-
 /// The right operand, where the left one doesn't decide.
 pub(crate) fn run_logic<'a>(
     pending: &mut Pending<'a>,
@@ -38,7 +26,7 @@ pub(crate) fn run_logic<'a>(
         result }
 {
     let left = pop(&mut pending.values);
-    if decides(op, left) {
+    if op.group().decides(left) {
         pending.values.push(left)?;
         Ok(())
     } else {

@@ -1,7 +1,6 @@
 //! Expressions that are to be evaluated.
 
 ghost use Rattle.std.specs.Prelude.{◌≡◌, ℕ, List, OnOk};
-ghost use Rattle.c_tree.specs.Constant.{is_logic};
 ghost use Rattle.c_tree.specs.Item.{Item};
 ghost use Rattle.c_resolve.specs.Actions.{value_run, unused_run};
 ghost use Rattle.c_semantics.specs.Eval.{binary_run, unary_run, strict, logic, stepped, assign_run, conditional_run};
@@ -17,12 +16,6 @@ use crate::planning::plan;
 use c_resolve::{Node, NodeKind, Target};
 use c_semantics::{Held, Home, Operand};
 use c_tree::{Binary, OutOfMemory, Place, Step, Unary};
-
-fn is_logic(op: Binary) -> bool
-    ensures { result ≡ is_logic op }
-{
-    matches!(op, Binary::Or | Binary::And)
-}
 
 /// An operator before its operand.
 #[tactic(auto, using(c_semantics::proofs::RunLemmas::assoc))]
@@ -247,7 +240,7 @@ fn plan_binary<'a>(
         (λ definitions input calls. binary_run op c d at (value_run definitions input calls a.now)
         (value_run definitions input calls b.now)) work.old.items work.new.items) }
 {
-    if is_logic(op) {
+    if op.group().is_logic() {
         plan_logic(work, op, a, b)
     } else {
         plan_strict(work, op, c, d, a, b, at)

@@ -2,7 +2,7 @@
 
 ghost use Rattle.std.specs.Prelude.{OnOk};
 ghost use Rattle.std.specs.Option.{option_copied};
-ghost use Rattle.c_resolve.specs.Actions.{action_run, first_run, block_run, for_run, return_flow_run, return_run, step_run, test_run, if_run, vars_run, do_run, ends_with, expr_run, passing, unused_run, value_run, while_run, optional_run};
+ghost use Rattle.c_resolve.specs.Actions.{action_run, first_run, block_run, for_run, return_flow_run, return_run, step_run, test_run, if_run, vars_run, do_run, ends_with, expr_run, passing, unused_run, value_run, while_run, else_run};
 ghost use Rattle.c_meaning.specs.private.Turned.{PlansFlow};
 
 use crate::pending::{Edge, Loop, Stage, Task, Wanted, Work};
@@ -57,8 +57,8 @@ fn plan_if<'a>(
     ensures { OnOk result (PlansFlow
         (λ definitions input calls. if_run (value_run definitions input calls test.now)
         (action_run definitions input calls body.now)
-        (optional_run definitions input calls (option_copied other.entry))) work.old.items
-        work.new.items) }
+        (else_run (action_run definitions input calls) (option_copied other.entry)))
+        work.old.items work.new.items) }
 {
     plan(
         work,
@@ -182,11 +182,11 @@ pub(crate) fn plan_stmt<'a>(work: &mut Vec<Work<'a>>, action: &'a Action) -> Res
             plan_block(work, locals, body)?;
             Ok(())
         }
-        Action::If(test, body) => {
+        Action::If(test, body, None) => {
             plan_if(work, test, body, None)?;
             Ok(())
         }
-        Action::IfElse(test, body, other) => {
+        Action::If(test, body, Some(other)) => {
             plan_if(work, test, body, Some(other))?;
             Ok(())
         }

@@ -2,7 +2,6 @@
 #![tactic(auto)]
 
 mod acts;
-mod arithmetic;
 mod blocks;
 mod calling;
 mod choosing;

@@ -1,6 +1,6 @@
 -- What nodes and actions do, form by form: equations that a walk over them names in its `using(..)`.
 use Rattle.std.specs.Prelude.{Box, map}
-use Rattle.std.proofs.Common.{◌≡◌, ℕ, Bool, List, Vec, Global, Option, ap, sym, ◌∙◌}
+use Rattle.std.proofs.Common.{◌≡◌, ℕ, Bool, List, Vec, Global, Option, Some, None, ap, sym, ◌∙◌}
 use Rattle.c_tree.specs.declared.operator.Binary.{Binary}
 use Rattle.c_tree.specs.declared.operator.Binary.TheVariants as binary
 use Rattle.c_tree.specs.declared.operator.Step.{Step}
@@ -26,13 +26,13 @@ use Rattle.c_resolve.specs.declared.node.NodeKind.TheOpen.{NodeKind-F}
 use Rattle.c_resolve.specs.declared.node.NodeKind.TheViews.{roll-NodeKind}
 use Rattle.c_resolve.specs.declared.node.NodeKind.TheFolds.{fold-roll-NodeKind, fold_out-Node, map-NodeKind}
 use Rattle.c_resolve.specs.declared.node.Target.{Target}
-use Rattle.c_semantics.specs.Run.{Run, pure}
+use Rattle.c_semantics.specs.Run.{Run}
 use Rattle.c_semantics.specs.Names.{Definition}
 use Rattle.c_semantics.specs.Eval.{Calls, call, strict, binary_run, unary_run, stepped, assign_run, conditional_run}
 use Rattle.c_semantics.specs.declared.flow.Flow.{Flow}
 use Rattle.c_semantics.specs.declared.flow.Flow.TheVariants.{Normal, AtBreak, AtContinue}
 use Rattle.c_resolve.specs.Nodes.{Runs, placed, valued, constant, name_run, name_address, pointer, index_run, cast_run, called, all_values, target_run, node_step, at_place, runs, runs_of_kind}
-use Rattle.c_resolve.specs.Actions.{expr_run, vars_run, if_run, while_run, do_run, for_run, return_run, ends_with, value_run, unused_run, passing, first_run, test_run, step_run, return_flow_run, action_step, action_run, block_run}
+use Rattle.c_resolve.specs.Actions.{expr_run, vars_run, if_run, else_run, while_run, do_run, for_run, return_run, ends_with, value_run, unused_run, passing, first_run, test_run, step_run, return_flow_run, action_step, action_run, boxed_run, block_run}
 
 module _ (definitions : List Definition) (input : List ℕ) (calls : Calls) where
   abbrev of : Node → Runs
@@ -132,15 +132,12 @@ module _ (definitions : List Definition) (input : List ℕ) (calls : Calls) wher
       ≡ block_run definitions input calls ls.items body.items
   block_is ls body = ap act (sym (s.rolls-Block ls body)) ∙ built (level.Block ls body)
 
-  pub if_is : (c : Node) (body : Box Action Global)
-      → action_run definitions input calls (s.If c body)
-      ≡ if_run (value_run definitions input calls c) (act body.value) (pure Normal)
-  if_is c body = ap act (sym (s.rolls-If c body)) ∙ built (level.If c body)
-
-  pub if_else_is : (c : Node) (body other : Box Action Global)
-      → action_run definitions input calls (s.IfElse c body other)
-      ≡ if_run (value_run definitions input calls c) (act body.value) (act other.value)
-  if_else_is c body other = ap act (sym (s.rolls-IfElse c body other)) ∙ built (level.IfElse c body other)
+  pub if_is : (c : Node) (body : Box Action Global) (other : Option (Box Action Global))
+      → action_run definitions input calls (s.If c body other)
+      ≡ if_run (value_run definitions input calls c) (act body.value)
+      (else_run (boxed_run definitions input calls) other)
+  if_is c body None = ap act (sym (s.rolls-If c body None)) ∙ built (level.If c body None)
+  if_is c body (Some other) = ap act (sym (s.rolls-If c body (Some other))) ∙ built (level.If c body (Some other))
 
   pub while_is : (c : Node) (body : Box Action Global)
       → action_run definitions input calls (s.While c body)
@@ -168,4 +165,4 @@ module _ (definitions : List Definition) (input : List ℕ) (calls : Calls) wher
   pub continue_is : action_run definitions input calls s.Continue ≡ ends_with AtContinue
   continue_is = ap act (sym s.rolls-Continue) ∙ built level.Continue
 
-pub ruleset views = (node_is, place_is, constant_is, name_is, unary_is, step_is, convert_is, binary_is, conditional_is, assign_is, index_is, call_is, empty_is, evaluate_is, declare_is, block_is, if_is, if_else_is, while_is, do_is, for_is, return_is, break_is, continue_is)
+pub ruleset views = (node_is, place_is, constant_is, name_is, unary_is, step_is, convert_is, binary_is, conditional_is, assign_is, index_is, call_is, empty_is, evaluate_is, declare_is, block_is, if_is, while_is, do_is, for_is, return_is, break_is, continue_is)

@@ -1,5 +1,6 @@
 -- What a statement or a function does whose names, types and offsets are worked out.
-use Rattle.std.specs.Prelude.{ℕ, ◌+◌, ◌==◌, Bool, List, [], ◌∷◌, Option, Some, None, map, if◌then◌else◌}
+use Rattle.std.specs.Prelude.{ℕ, ◌+◌, ◌==◌, Bool, List, [], ◌∷◌, Option, Some, None, Box, map, if◌then◌else◌}
+use Rattle.std.proofs.Common.{Global}
 use Rattle.c_tree.specs.declared.place.Place.{Place}
 use Rattle.c_resolve.specs.declared.action.Action.{Action}
 use Rattle.c_resolve.specs.declared.action.Action.TheOpen.{Action-F}
@@ -49,6 +50,11 @@ if_run c body other = do
   count
   x ← c
   if x == 0 then other else body
+
+-- the branch of an `if` that may be left out, where `run` says what one does
+abbrev pub else_run : {A : Type 0} → (A → Run Flow) → Option A → Run Flow
+else_run run None = pure Normal
+else_run run (Some a) = run a
 
 abbrev pub while_run : Run ℕ → Run Flow → Run Flow
 while_run c body = do
@@ -128,8 +134,8 @@ module _ (definitions : List Definition) (input : List ℕ) (calls : Calls) wher
   action_step (one.Expr n) = expr_run (unused_run n)
   action_step (one.Vars counted ps) = vars_run counted (passing ps.items)
   action_step (one.Block ls body) = with_locals ls.items (in_order body.items)
-  action_step (one.If c body) = if_run (value_run c) body.value (pure Normal)
-  action_step (one.IfElse c body other) = if_run (value_run c) body.value other.value
+  action_step (one.If c body other) =
+      if_run (value_run c) body.value (else_run (λ o. o.value) other)
   action_step (one.While c body) = while_run (value_run c) body.value
   action_step (one.Do body c) = do_run body.value (value_run c)
   action_step (one.For ls f c d body) =
@@ -140,6 +146,9 @@ module _ (definitions : List Definition) (input : List ℕ) (calls : Calls) wher
 
   abbrev pub action_run : Action → Run Flow
   action_run = fold-Action (Run Flow) action_step
+
+  abbrev pub boxed_run : Box Action Global → Run Flow
+  boxed_run a = action_run a.value
 
   abbrev pub body_run : List Action → Run Flow
   body_run body = in_order (map action_run body)
@@ -156,11 +165,6 @@ module _ (definitions : List Definition) (input : List ℕ) (calls : Calls) wher
   abbrev pub routine_run : Routine → List ℕ → Run (Option ℕ)
   routine_run r vs = in_frame r.is_main r.frame
       (with_locals r.locals.items (arguments_run r.parameters.items vs >> body_run r.body.items))
-
-  -- an `else`, where there is one
-  abbrev pub optional_run : Option Action → Run Flow
-  optional_run None = pure Normal
-  optional_run (Some a) = action_run a
 
   abbrev pub block_run : List Local → List Action → Run Flow
   block_run ls body = with_locals ls (body_run body)

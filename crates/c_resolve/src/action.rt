@@ -41,8 +41,7 @@ pub enum Action {
     Vars(bool, Vec<Passed>),
     /// A block, with its own locals.
     Block(Vec<Local>, Vec<Action>),
-    If(Node, Box<Action>),
-    IfElse(Node, Box<Action>, Box<Action>),
+    If(Node, Box<Action>, Option<Box<Action>>),
     While(Node, Box<Action>),
     Do(Box<Action>, Node),
     /// A `for`, with the locals that it declares itself.

@@ -3,12 +3,12 @@
 ghost use Rattle.std.specs.Prelude.{◌≡◌, ◌++◌, ℕ, List, drop, length, map, option_map, IfOk, OnOk};
 ghost use Rattle.c_tree.specs.declared.place.Place.{Place as At};
 ghost use Rattle.c_tree.specs.Stmt as stmt;
-ghost use Rattle.c_tree.specs.View.{expr_of, var_of, first_of, ty_of, stmt_of, stmts_of};
-ghost use Rattle.c_layout.specs.Frames.{body_locals};
+ghost use Rattle.c_tree.specs.View.{expr_of, var_of, first_of, ty_of, boxed_stmt_of, else_of, stmt_of, stmts_of};
+ghost use Rattle.c_layout.specs.Frames.{else_locals, body_locals};
 ghost use Rattle.c_resolve.specs.private.Acted.{IsKept, AreNames, IsActionOf};
-ghost use Rattle.c_resolve.specs.Actions.{action_run, first_run, body_run, if_run, step_run, test_run, value_run};
+ghost use Rattle.c_resolve.specs.Actions.{action_run, boxed_run, first_run, body_run, if_run, else_run, step_run, test_run, value_run};
 ghost use Rattle.c_semantics.specs.Eval.{Calls};
-ghost use Rattle.c_semantics.specs.Exec.{begin, beginning_own, behind, block_locals, exec_all, named_beginning, named_behind, statement_locals, step as step_of, test as test_of, with_locals_named};
+ghost use Rattle.c_semantics.specs.Exec.{begin, beginning_own, behind, block_locals, exec_else, exec_all, named_beginning, named_behind, statement_locals, step as step_of, test as test_of, with_locals_named};
 ghost use Rattle.c_semantics.specs.Names.{Definition};
 ghost use Rattle.c_resolve.specs.private.Resolved.{names_in};
 
@@ -29,6 +29,13 @@ use std::alloc::Global;
 #[derive(Debug, Drop)]
 pub(super) struct Acted<'a> {
     action: Action,
+    rest: &'a [u32],
+}
+
+/// What the branch of an `if` does that may be left out, and the offsets behind it.
+#[derive(Debug, Drop)]
+struct ElseBranch<'a> {
+    action: Option<Box<Action>>,
     rest: &'a [u32],
 }
 
@@ -123,8 +130,7 @@ fn push_stmt_locals(
         StmtKind::Vars(vars) => push_locals(alloc, vars, places, out),
         StmtKind::Block(_) => Ok(()),
         StmtKind::Marker(_) => Ok(()),
-        StmtKind::If(_, _, None) => Ok(()),
-        StmtKind::If(_, _, Some(_)) => Ok(()),
+        StmtKind::If(_, _, _) => Ok(()),
         StmtKind::While(_, _) => Ok(()),
         StmtKind::Do(_, _) => Ok(()),
         StmtKind::For(_, _, _, _) => Ok(()),
@@ -180,24 +186,23 @@ fn resolve_for_head(
     })
 }
 
-/// An `if` with an `else`.
+/// An `if`, with an `else` or without.
 #[tactic(auto, using(crate::proofs::ActionViews::views))]
-fn build_if_else(
+fn build_if(
     alloc: Global,
     test: Node,
     body: Action,
-    other: Action,
+    other: Option<Box<Action>>,
 ) -> Result<Action, OutOfMemory>
     ensures { IfOk result (λ action. (definitions : List Definition) → (input : List ℕ)
         → (calls : Calls) →
         action_run definitions input calls action
         ≡ if_run (value_run definitions input calls test)
         (action_run definitions input calls body)
-        (action_run definitions input calls other)) }
+        (else_run (boxed_run definitions input calls) other)) }
 {
     let body = Box::new(alloc, body)?;
-    let other = Box::new(alloc, other)?;
-    Ok(Action::IfElse(test, body, other))
+    Ok(Action::If(test, body, other))
 }
 
 /// A statement whose names are out of scope behind it.
@@ -220,29 +225,38 @@ fn resolve_inner<'a>(
     Ok(acted)
 }
 
-/// An `if` without an `else`.
+/// The branch of an `if` that may be left out.
 #[cycle(statement)]
-fn resolve_if<'a>(
+fn resolve_else<'a>(
     alloc: Global,
-    then: &Stmt,
-    test: &Expr,
+    other: &Option<Box<Stmt>>,
     places: &'a [u32],
     gives: &CType,
     names: &mut Names,
-) -> Result<Acted<'a>, OutOfMemory>
+) -> Result<ElseBranch<'a>, OutOfMemory>
     ensures same { OnOk result (names.new.entries.items ≡ names.old.entries.items) }
-    ensures rest { IfOk result (λ acted. acted.rest.now ≡ behind (stmt_of then.now) places.now) }
-    ensures means { (at : At)
-        → IfOk result (λ acted. IsActionOf names.old places.now (ty_of gives.now) acted.action
-        (stmt.If (expr_of test.now) (stmt_of then.now) at)) }
+    ensures rest { IfOk result (λ branch. branch.rest.now
+        ≡ drop (length (else_locals (else_of boxed_stmt_of other.now))) places.now) }
+    ensures means { IfOk result
+        (λ branch. (definitions : List Definition) → (input : List ℕ) → (calls : Calls) →
+        else_run (boxed_run definitions input calls) branch.action
+        ≡ exec_else input calls (ty_of gives.now) (names_in definitions names.old) places.now
+        (else_of boxed_stmt_of other.now)) }
 {
-    let test = resolve(alloc, test, names)?.node;
-    let acted = resolve_inner(alloc, then, places, gives, names)?;
-    let body = Box::new(alloc, acted.action)?;
-    Ok(Acted {
-        action: Action::If(test, body),
-        rest: acted.rest,
-    })
+    match other {
+        None => Ok(ElseBranch {
+            action: None,
+            rest: places,
+        }),
+        Some(other) => {
+            let acted = resolve_inner(alloc, other, places, gives, names)?;
+            let action = Box::new(alloc, acted.action)?;
+            Ok(ElseBranch {
+                action: Some(action),
+                rest: acted.rest,
+            })
+        }
+    }
 }
 
 /// A `while`.
@@ -391,17 +405,14 @@ fn resolve_stmt<'a>(
             let action = Action::Empty;
             Ok(Acted { action, rest })
         }
-        StmtKind::If(test, then, other) => match other {
-            None => resolve_if(alloc, then, test, places, gives, names),
-            Some(other) => {
-                let test = resolve(alloc, test, names)?.node;
-                let yes = resolve_inner(alloc, then, places, gives, names)?;
-                let no = resolve_inner(alloc, other, yes.rest, gives, names)?;
-                let action = build_if_else(alloc, test, yes.action, no.action)?;
-                let rest = no.rest;
-                Ok(Acted { action, rest })
-            }
-        },
+        StmtKind::If(test, then, other) => {
+            let test = resolve(alloc, test, names)?.node;
+            let yes = resolve_inner(alloc, then, places, gives, names)?;
+            let no = resolve_else(alloc, other, yes.rest, gives, names)?;
+            let action = build_if(alloc, test, yes.action, no.action)?;
+            let rest = no.rest;
+            Ok(Acted { action, rest })
+        }
         StmtKind::While(test, body) => resolve_while(alloc, body, test, places, gives, names),
         StmtKind::Do(body, test) => resolve_do(alloc, body, test, places, gives, names),
         StmtKind::For(first, test, step, body) => {

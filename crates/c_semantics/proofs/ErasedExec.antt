@@ -8,11 +8,11 @@ use Rattle.c_tree.specs.Init as initial
 use Rattle.c_tree.specs.Var.{Var}
 use Rattle.c_tree.specs.First.{First}
 use Rattle.c_tree.specs.First as for_first
-use Rattle.c_tree.specs.Stmt.{Stmt, Stmts}
+use Rattle.c_tree.specs.Stmt.{Stmt, Stmts, ElseBranch}
 use Rattle.c_tree.specs.Stmt as stmt
 use Rattle.c_tree.specs.Declarators.{declared_shape}
 use Rattle.c_tree.specs.Arithmetic.{converted}
-use Rattle.c_tree.specs.Erase.{erased, erased_all}
+use Rattle.c_tree.specs.Erase.{erased, erased_else, erased_all}
 use Rattle.c_layout.specs.Frames.{beginning_locals}
 use Rattle.c_layout.proofs.ErasedLayout.{same_locals}
 use Rattle.c_semantics.specs.declared.flow.Flow.{Flow}
@@ -21,7 +21,7 @@ use Rattle.c_semantics.specs.Run.{Run, pure, ◌>>=◌, ◌>>◌, count, now}
 use Rattle.c_semantics.specs.Memory.{store_at}
 use Rattle.c_semantics.specs.Names.{Definition, Names, held}
 use Rattle.c_semantics.specs.Eval.{Calls, eval}
-use Rattle.c_semantics.specs.Exec.{next, after_turn, loop, behind, statement_locals, block_locals, beginning_own, with_locals, with_local, named_behind, named_beginning, has_init, count_where, first_place, initialised, declare, begin, test, step, return_flow, exec, exec_all}
+use Rattle.c_semantics.specs.Exec.{next, after_turn, loop, behind, statement_locals, block_locals, beginning_own, with_locals, with_local, named_behind, named_beginning, has_init, count_where, first_place, initialised, declare, begin, test, step, return_flow, exec, exec_else, exec_all}
 use Rattle.c_semantics.proofs.ErasedNames.{erased_definition, erased_names, erased_local, erased_locals, erased_behind}
 use Rattle.c_semantics.proofs.ErasedEval.{same_eval, same_unused}
 
@@ -35,8 +35,7 @@ same_own places (stmt.Expr e at) = refl
 same_own places (stmt.Vars ds at) = refl
 same_own places (stmt.Block body at) = refl
 same_own places (stmt.Marker m at) = refl
-same_own places (stmt.If c s at) = refl
-same_own places (stmt.IfElse c s other at) = refl
+same_own places (stmt.If c s other at) = refl
 same_own places (stmt.While c s at) = refl
 same_own places (stmt.Do s c at) = refl
 same_own places (stmt.For f c d s at) = refl
@@ -102,9 +101,8 @@ module _ (input : List ℕ) (calls bare : Calls) (h : (d : Definition) → bare 
       same_exec names places (stmt.Vars ds at) = λ i. count_where (has_init ds) >> (same_declare names places ds i >> pure Normal)
       same_exec names places (stmt.Block body at) = ap₂ with_locals (same_block places body) (same_exec_all names places body)
       same_exec names places (stmt.Marker marker at) = refl
-      same_exec names places (stmt.If c s at) = λ i. count >> (same_value names c i >>= λ x. if x == 0 then pure Normal else same_exec names places s i)
-      same_exec names places (stmt.IfElse c s other at) =
-          let second = ap (λ those. exec input bare result (erased_names names) those (erased other)) (same_behind s places) ∙ same_exec names (behind s places) other in
+      same_exec names places (stmt.If c s other at) =
+          let second = ap (λ those. exec_else input bare result (erased_names names) those (erased_else other)) (same_behind s places) ∙ same_exec_else names (behind s places) other in
           λ i. count >> (same_value names c i >>= λ x. if x == 0 then second i else same_exec names places s i)
       same_exec names places (stmt.While c s at) = λ i. count >> loop (same_value names c i) (same_exec names places s i) (pure tt)
       same_exec names places (stmt.Do s c at) = λ i.
@@ -118,6 +116,12 @@ module _ (input : List ℕ) (calls bare : Calls) (h : (d : Definition) → bare 
       same_exec names places (stmt.Return value at) = λ i. count >> same_give names value i
       same_exec names places (stmt.Break at) = refl
       same_exec names places (stmt.Continue at) = refl
+
+      same_exec_else : (names : Names) (places : List ℕ) (other : ElseBranch)
+          → exec_else input bare result (erased_names names) places (erased_else other)
+          ≡ exec_else input calls result names places other
+      same_exec_else names places stmt.NoElse = refl
+      same_exec_else names places (stmt.Else s) = same_exec names places s
 
       pub same_exec_all : (names : Names) (places : List ℕ) (body : Stmts)
           → exec_all input bare result (erased_names names) places (erased_all body)

@@ -10,20 +10,20 @@ use Rattle.c_tree.specs.Init as initial
 use Rattle.c_tree.specs.Var.{Var}
 use Rattle.c_tree.specs.First.{First}
 use Rattle.c_tree.specs.First as for_first
-use Rattle.c_tree.specs.Stmt.{Stmt, Stmts}
+use Rattle.c_tree.specs.Stmt.{Stmt, Stmts, ElseBranch}
 use Rattle.c_tree.specs.Stmt as stmt
 use Rattle.c_tree.specs.Scope.{Scope, entered}
 use Rattle.c_tree.specs.Shapes.{is_void}
 use Rattle.c_tree.specs.Breach.{unless}
 use Rattle.c_tree.specs.Breaches.{breaches, breaches_in}
 use Rattle.c_tree.specs.Declarators.{declared_shape, with_declarator, with_declarators, fit_sizes, constants_breaches, local_init_breaches, declarator_breaches, declarators_breaches}
-use Rattle.c_tree.specs.Statements.{behind as scope_behind, behind_beginning, test_breaches, optional_test_breaches, unused_breaches, beginning_breaches, return_breaches, statement_breaches, body_breaches}
+use Rattle.c_tree.specs.Statements.{behind as scope_behind, behind_beginning, test_breaches, optional_test_breaches, unused_breaches, beginning_breaches, return_breaches, statement_breaches, else_breaches, body_breaches}
 use Rattle.c_tree.proofs.NoBreach.{nil_left, nil_right, holds, never, left_true, is_false}
-use Rattle.c_layout.specs.Frames.{beginning_locals, locals, body_locals}
+use Rattle.c_layout.specs.Frames.{beginning_locals, locals, else_locals, body_locals}
 use Rattle.c_semantics.specs.declared.home.Home.TheVariants.{InFrame, Nowhere}
 use Rattle.c_semantics.specs.Names.{Names}
 use Rattle.c_semantics.specs.Exec.{behind, with_local, with_locals_named, named_behind, named_beginning}
-use Rattle.c_semantics.specs.Evaluated.{IsEvaluable, IsEvaluableUnused, IsReturnable, IsInitialisable, HasPlace, AreDeclarable, IsBeginnable, IsExecutable, AreExecutable}
+use Rattle.c_semantics.specs.Evaluated.{IsEvaluable, IsEvaluableUnused, IsReturnable, IsInitialisable, HasPlace, AreDeclarable, IsBeginnable, IsExecutable, IsExecutableElse, AreExecutable}
 use Rattle.c_semantics.proofs.ConstantValues.{have_values}
 use Rattle.c_semantics.proofs.SameNames.{SameNames, same_with, same_entered}
 use Rattle.c_semantics.proofs.EvaluatedLemmas.{evaluable, evaluable_unused}
@@ -133,16 +133,12 @@ module _ (result : Ty) where
     executable loop (stmt.Vars ds at) scope names places s le h = declarable scope names places ds s le h
     executable loop (stmt.Block body at) scope names places s le h = all_executable loop body (entered scope) names places (same_entered s) le h
     executable loop (stmt.Marker m at) scope names places s le h = tt
-    executable loop (stmt.If c t at) scope names places s le h = (
-      testable scope names s c at (nil_left _ _ h),
-      executable loop t (entered scope) names places (same_entered s) le (nil_right (test_breaches scope c at) _ h),
-    )
-    executable loop (stmt.IfElse c t other at) scope names places s le h =
+    executable loop (stmt.If c t other at) scope names places s le h =
         let two = nil_right (test_breaches scope c at) _ h in
         let three = nil_right (statement_breaches result loop t (entered scope)) _ two in (
           testable scope names s c at (nil_left _ _ h),
-          executable loop t (entered scope) names places (same_entered s) (places_before (locals t) (locals other) places le) (nil_left _ _ two),
-          executable loop other (entered scope) names (behind t places) (same_entered s) (places_behind (locals t) (locals other) places le) three,
+          executable loop t (entered scope) names places (same_entered s) (places_before (locals t) (else_locals other) places le) (nil_left _ _ two),
+          else_executable loop other scope names (behind t places) s (places_behind (locals t) (else_locals other) places le) three,
         )
     executable loop (stmt.While c t at) scope names places s le h = (
       testable scope names s c at (nil_left _ _ h),
@@ -170,6 +166,14 @@ module _ (result : Ty) where
     executable loop (stmt.Return value at) scope names places s le h = returnable scope names s result value at h
     executable loop (stmt.Break at) scope names places s le h = tt
     executable loop (stmt.Continue at) scope names places s le h = tt
+
+    else_executable : (loop : Bool) (other : ElseBranch) (scope : Scope) (names : Names)
+        (places : List ℕ)
+        → SameNames scope names → length (else_locals other) ≤ length places
+        → else_breaches result loop other scope ≡ []
+        → IsExecutableElse result names places other
+    else_executable loop stmt.NoElse scope names places s le h = tt
+    else_executable loop (stmt.Else t) scope names places s le h = executable loop t (entered scope) names places (same_entered s) le h
 
     pub all_executable : (loop : Bool) (body : Stmts) (scope : Scope) (names : Names)
         (places : List ℕ)

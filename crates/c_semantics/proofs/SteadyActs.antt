@@ -1,14 +1,15 @@
 -- What an expression does beside evaluating its parts is steady: it takes no step.
 use Rattle.std.proofs.Common.{ℕ, ◌+◌, List, [], ◌∷◌, ◌++◌, true, Option, Some, None}
-use Rattle.std.specs.Prelude.{not, ◌&&◌, ◌||◌, ℤ, pos, ◌+ℤ◌, ◌-ℤ◌, ◌*ℤ◌, neg_ℤ, int_div, nat_abs, ◌%◌, ◌^◌, slice_get}
+use Rattle.std.specs.Prelude.{Ok, Err, not, ◌&&◌, ◌||◌, ℤ, pos, ◌+ℤ◌, ◌-ℤ◌, ◌*ℤ◌, neg_ℤ, int_div, nat_abs, ◌%◌, ◌^◌, slice_get}
 use Rattle.std.specs.Int.{w32, cast_unsigned}
 use Rattle.byte_lists.proofs.Prefixes.{IsPrefix-append}
 use Rattle.c_tree.specs.declared.operator.Binary.{Binary}
-use Rattle.c_tree.specs.declared.operator.Binary.TheVariants as binary
+use Rattle.c_tree.specs.declared.operator.Group.{Group}
+use Rattle.c_tree.specs.declared.operator.Group.TheVariants as by
 use Rattle.c_tree.specs.declared.place.Place.{Place}
 use Rattle.c_tree.specs.declared.undefined.Undefined.TheVariants.{Access, Indeterminate, Pointer as NotAlong}
-use Rattle.c_tree.specs.Constant.{is_shift}
-use Rattle.c_tree.specs.Arithmetic.{Outcome, Gives, Fails, binary_word}
+use Rattle.c_tree.specs.Groups.{group, is_order, is_shift}
+use Rattle.c_tree.specs.Arithmetic.{Outcome, binary_word}
 use Rattle.c_semantics.specs.declared.home.Home.{Home}
 use Rattle.c_semantics.specs.declared.home.Home.TheVariants.{Fixed, InFrame, Nowhere}
 use Rattle.c_semantics.specs.declared.kind.Held.{Held}
@@ -19,7 +20,7 @@ use Rattle.c_semantics.specs.Run.{Store}
 use Rattle.c_semantics.specs.Memory.{is_fine, number, range, digits, with_bytes, read, write, value_at, store_at}
 use Rattle.c_semantics.specs.Pointers.{are_along, along, moved, distance}
 use Rattle.c_semantics.specs.Names.{address_of}
-use Rattle.c_semantics.specs.Eval.{outcome, amount, is_unsigned, is_order, compared, arithmetic, sum, difference, other_act, binary_act, combined, assigned, taken, getchar, first_of, put, putchar}
+use Rattle.c_semantics.specs.Eval.{outcome, amount, is_unsigned, compared, arithmetic, sum, difference, other_act, group_act, binary_act, combined, assigned, taken, getchar, first_of, put, putchar}
 use Rattle.c_semantics.proofs.Steady.{Alone, steady_then, steady_pure, steady_undefined, steady_behind, steady_conditional_at, steady_where, steady_given}
 
 module _ {k below : ℕ} where
@@ -52,38 +53,44 @@ module _ {k below : ℕ} where
   steady_distance size p q at = steady_along (pos p) (pos q) (cast_unsigned w32 (int_div (pos p -ℤ pos q) (pos size))) at
 
   pub steady_outcome : (o : Outcome) (at : Place) → Alone k below (outcome o at)
-  steady_outcome (Gives word) at = steady_pure word
-  steady_outcome (Fails act) at = steady_undefined act at
+  steady_outcome (Ok word) at = steady_pure word
+  steady_outcome (Err act) at = steady_undefined act at
 
   steady_arithmetic : (op : Binary) (c d : Operand) (x y : ℕ) (at : Place)
       → Alone k below (arithmetic op c d x y at)
-  steady_arithmetic op c d x y at = steady_outcome (binary_word op (is_unsigned c || (not (is_shift op) && is_unsigned d)) x y) at
+  steady_arithmetic op c d x y at = steady_outcome (binary_word op (is_unsigned c || (not (is_shift (group op)) && is_unsigned d)) x y) at
 
   steady_compared : (op : Binary) (x y : ℕ) (at : Place) → Alone k below (compared op x y at)
   steady_compared op x y at =
       let equal = steady_outcome (binary_word op true x y) at in
-      steady_where (is_order op) (steady_then (steady_along (pos x) (pos y) x at) (λ _. equal)) equal
+      steady_where (is_order (group op)) (steady_then (steady_along (pos x) (pos y) x at) (λ _. equal)) equal
 
-  steady_sum : (c d : Operand) (x y : ℕ) (at : Place) → Alone k below (sum c d x y at)
-  steady_sum (Pointer size) d x y at = steady_moved size (amount d y) x at
-  steady_sum c (Pointer size) x y at = steady_moved size (amount c x) y at
-  steady_sum c d x y at = steady_arithmetic binary.Plus c d x y at
+  steady_sum : (op : Binary) (c d : Operand) (x y : ℕ) (at : Place)
+      → Alone k below (sum op c d x y at)
+  steady_sum op (Pointer size) d x y at = steady_moved size (amount d y) x at
+  steady_sum op c (Pointer size) x y at = steady_moved size (amount c x) y at
+  steady_sum op c d x y at = steady_arithmetic op c d x y at
 
-  steady_difference : (c d : Operand) (x y : ℕ) (at : Place) → Alone k below (difference c d x y at)
-  steady_difference (Pointer size) (Pointer other) x y at = steady_distance size x y at
-  steady_difference (Pointer size) d x y at = steady_moved size (neg_ℤ (amount d y)) x at
-  steady_difference c d x y at = steady_arithmetic binary.Minus c d x y at
+  steady_difference : (op : Binary) (c d : Operand) (x y : ℕ) (at : Place)
+      → Alone k below (difference op c d x y at)
+  steady_difference op (Pointer size) (Pointer other) x y at = steady_distance size x y at
+  steady_difference op (Pointer size) d x y at = steady_moved size (neg_ℤ (amount d y)) x at
+  steady_difference op c d x y at = steady_arithmetic op c d x y at
 
   steady_other : (op : Binary) (c d : Operand) (x y : ℕ) (at : Place)
       → Alone k below (other_act op c d x y at)
   steady_other op (Pointer size) d x y at = steady_compared op x y at
   steady_other op c d x y at = steady_arithmetic op c d x y at
 
+  steady_group : (g : Group) (op : Binary) (c d : Operand) (x y : ℕ) (at : Place)
+      → Alone k below (group_act g op c d x y at)
+  steady_group by.Sum op c d x y at = steady_sum op c d x y at
+  steady_group by.Difference op c d x y at = steady_difference op c d x y at
+  steady_group _ op c d x y at = steady_other op c d x y at
+
   pub steady_binary : (op : Binary) (c d : Operand) (x y : ℕ) (at : Place)
       → Alone k below (binary_act op c d x y at)
-  steady_binary binary.Plus c d x y at = steady_sum c d x y at
-  steady_binary binary.Minus c d x y at = steady_difference c d x y at
-  steady_binary op c d x y at = steady_other op c d x y at
+  steady_binary op c d x y at = steady_group (group op) op c d x y at
 
   pub steady_combined : (op : Binary) (c d : Operand) (h : Held) (own at : Place) (x v : ℕ)
       → Alone k below (combined op c d h own at x v)

@@ -12,7 +12,7 @@ use Rattle.c_tree.specs.declared.tree.Callee.TheVariants as callee
 use Rattle.c_tree.specs.declared.undefined.Undefined.TheVariants.{NoValue}
 use Rattle.c_tree.specs.Expr.{Expr, Exprs}
 use Rattle.c_tree.specs.Expr as expr
-use Rattle.c_tree.specs.Constant.{is_logic, decides}
+use Rattle.c_tree.specs.Groups.{group, is_logic, decides}
 use Rattle.c_tree.specs.Arithmetic.{truth, unary_word, converted}
 use Rattle.c_semantics.specs.declared.kind.Held.{Held}
 use Rattle.c_semantics.specs.declared.kind.Operand.{Operand}
@@ -30,7 +30,7 @@ module _ {k below : ℕ} where
   module _ (op : Binary) {a a' b b' : Run ℕ} (s : Steady k (suc below) a a') (t : Steady k (suc below) b b') where
     steady_logic : Steady k (suc below) (logic op a b) (logic op a' b')
     steady_logic =
-        steady_then s (λ x. steady_then (steady_where (decides op x) (steady_pure x) t) (λ y. steady_value_of (truth (not (y == 0)))))
+        steady_then s (λ x. steady_then (steady_where (decides (group op) x) (steady_pure x) t) (λ y. steady_value_of (truth (not (y == 0)))))
 
     steady_strict : (c d : Operand) (at : Place)
         → Steady k (suc below) (strict op c d at a b) (strict op c d at a' b')
@@ -38,7 +38,7 @@ module _ {k below : ℕ} where
 
     steady_binary_run : (c d : Operand) (at : Place)
         → Steady k (suc below) (binary_run op c d at a b) (binary_run op c d at a' b')
-    steady_binary_run c d at = steady_where (is_logic op) steady_logic (steady_strict c d at)
+    steady_binary_run c d at = steady_where (is_logic (group op)) steady_logic (steady_strict c d at)
 
   module _ {a a' place place' : Run ℕ} (s : Steady k (suc below) a a') (t : Steady k (suc below) place place') where
     steady_pointee : (h : Held) (at : Place)

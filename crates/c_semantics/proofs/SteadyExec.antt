@@ -8,7 +8,7 @@ use Rattle.c_tree.specs.Init as initial
 use Rattle.c_tree.specs.Var.{Var}
 use Rattle.c_tree.specs.First.{First}
 use Rattle.c_tree.specs.First as for_first
-use Rattle.c_tree.specs.Stmt.{Stmt, Stmts}
+use Rattle.c_tree.specs.Stmt.{Stmt, Stmts, ElseBranch}
 use Rattle.c_tree.specs.Stmt as stmt
 use Rattle.c_tree.specs.Declarators.{declared_shape}
 use Rattle.c_tree.specs.Arithmetic.{converted}
@@ -20,7 +20,7 @@ use Rattle.c_semantics.specs.Run.{Run}
 use Rattle.c_semantics.specs.Memory.{blank}
 use Rattle.c_semantics.specs.Names.{Names, Definition, held}
 use Rattle.c_semantics.specs.Eval.{Calls}
-use Rattle.c_semantics.specs.Exec.{behind, block_locals, beginning_own, object_at, all_blank, with_locals, with_local, named_behind, named_beginning, has_init, count_where, first_place, initialised, declare, begin, test, step, return_flow, exec, exec_all}
+use Rattle.c_semantics.specs.Exec.{behind, block_locals, beginning_own, object_at, all_blank, with_locals, with_local, named_behind, named_beginning, has_init, count_where, first_place, initialised, declare, begin, test, step, return_flow, exec, exec_else, exec_all}
 use Rattle.c_semantics.proofs.Steady.{Steady, Alone, steady_then, steady_step, steady_pure, steady_where}
 use Rattle.c_semantics.proofs.SteadyActs.{steady_store}
 use Rattle.c_semantics.proofs.SteadyEval.{steady_eval, steady_unused}
@@ -84,11 +84,9 @@ module _ {k below : ℕ} (input : List ℕ) (calls wide : Calls) (s : (d : Defin
       steady_exec names places (stmt.Vars ds at) = steady_then (steady_count_where (has_init ds)) (λ _. steady_then (steady_declare names places ds) (λ _. steady_pure Normal))
       steady_exec names places (stmt.Block body at) = steady_locals (block_locals places body) (steady_exec_all names places body)
       steady_exec names places (stmt.Marker marker at) = steady_then steady_step (λ _. steady_pure Normal)
-      steady_exec names places (stmt.If c t at) =
-          steady_then steady_step (λ _. steady_then (steady_eval input calls wide s names c) (λ x. steady_where (x == 0) (steady_pure Normal) (steady_exec names places t)))
-      steady_exec names places (stmt.IfElse c t other at) =
+      steady_exec names places (stmt.If c t other at) =
           steady_then steady_step (λ _. steady_then (steady_eval input calls wide s names c) (λ x.
-          steady_where (x == 0) (steady_exec names (behind t places) other) (steady_exec names places t)))
+          steady_where (x == 0) (steady_else names (behind t places) other) (steady_exec names places t)))
       steady_exec names places (stmt.While c t at) =
           steady_then steady_step (λ _. steady_loop (steady_eval input calls wide s names c) (steady_exec names places t) (steady_pure tt))
       steady_exec names places (stmt.Do t c at) =
@@ -101,6 +99,12 @@ module _ {k below : ℕ} (input : List ℕ) (calls wide : Calls) (s : (d : Defin
       steady_exec names places (stmt.Return value at) = steady_then steady_step (λ _. steady_give names value)
       steady_exec names places (stmt.Break at) = steady_then steady_step (λ _. steady_pure AtBreak)
       steady_exec names places (stmt.Continue at) = steady_then steady_step (λ _. steady_pure AtContinue)
+
+      steady_else : (names : Names) (places : List ℕ) (other : ElseBranch)
+          → Steady k (suc below) (exec_else input calls result names places other)
+          (exec_else input wide result names places other)
+      steady_else names places stmt.NoElse = steady_pure Normal
+      steady_else names places (stmt.Else t) = steady_exec names places t
 
       pub steady_exec_all : (names : Names) (places : List ℕ) (body : Stmts)
           → Steady k (suc below) (exec_all input calls result names places body)

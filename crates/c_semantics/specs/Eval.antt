@@ -1,7 +1,9 @@
 -- The value of an expression, with what its evaluation does (C11 6.5): one step is counted at each node, behind its operands and before its own act.
-use Rattle.std.specs.Prelude.{ℕ, ◌%◌, ◌^◌, ◌==◌, Bool, true, false, not, ◌&&◌, ◌||◌, List, [], ◌∷◌, ◌++◌, ◌+◌, Option, Some, None, if◌then◌else◌, slice_get, ℤ, pos, neg_ℤ}
+use Rattle.std.specs.Prelude.{ℕ, ◌%◌, ◌^◌, ◌==◌, Bool, true, false, not, ◌&&◌, ◌||◌, List, [], ◌∷◌, ◌++◌, ◌+◌, Option, Some, None, Ok, Err, if◌then◌else◌, slice_get, ℤ, pos, neg_ℤ}
 use Rattle.c_tree.specs.declared.operator.Binary.{Binary}
 use Rattle.c_tree.specs.declared.operator.Binary.TheVariants as binary
+use Rattle.c_tree.specs.declared.operator.Group.{Group}
+use Rattle.c_tree.specs.declared.operator.Group.TheVariants as by
 use Rattle.c_tree.specs.declared.operator.Step.{Step}
 use Rattle.c_tree.specs.declared.operator.Step.TheVariants.{RaiseFirst, LowerFirst, RaiseLast, LowerLast}
 use Rattle.c_tree.specs.declared.operator.Unary.{Unary}
@@ -12,9 +14,9 @@ use Rattle.c_tree.specs.declared.tree.Callee.TheVariants as callee
 use Rattle.c_tree.specs.declared.undefined.Undefined.TheVariants.{NoValue}
 use Rattle.c_tree.specs.Expr.{Expr, Exprs}
 use Rattle.c_tree.specs.Expr as expr
-use Rattle.c_tree.specs.Constant.{is_logic, is_shift, decides}
+use Rattle.c_tree.specs.Groups.{group, is_logic, is_order, is_shift, decides}
 use Rattle.c_tree.specs.Typing.{type_at}
-use Rattle.c_tree.specs.Arithmetic.{Outcome, Gives, Fails, signed, truth, unary_word, binary_word, converted}
+use Rattle.c_tree.specs.Arithmetic.{Outcome, signed, truth, unary_word, binary_word, converted}
 use Rattle.c_semantics.specs.declared.kind.Held.{Held}
 use Rattle.c_semantics.specs.declared.kind.Operand.{Operand}
 use Rattle.c_semantics.specs.declared.kind.Operand.TheVariants.{Signed, Unsigned, Pointer}
@@ -49,8 +51,8 @@ place_of (expr.Call callee all at) = at
 
 -- what arithmetic comes to
 abbrev pub outcome : Outcome → Place → Run ℕ
-outcome (Gives word) at = pure word
-outcome (Fails act) at = undefined act at
+outcome (Ok word) at = pure word
+outcome (Err act) at = undefined act at
 
 abbrev pub is_unsigned : Operand → Bool
 is_unsigned Signed = false
@@ -66,46 +68,42 @@ amount (Pointer size) x = pos x
 -- between two integers; a shift takes its sign from the left one
 abbrev pub arithmetic : Binary → Operand → Operand → ℕ → ℕ → Place → Run ℕ
 arithmetic op c d x y at =
-    outcome (binary_word op (is_unsigned c || (not (is_shift op) && is_unsigned d)) x y) at
-
-abbrev pub is_order : Binary → Bool
-is_order binary.Less = true
-is_order binary.Greater = true
-is_order binary.LessEqual = true
-is_order binary.GreaterEqual = true
-is_order _ = false
+    outcome (binary_word op (is_unsigned c || (not (is_shift (group op)) && is_unsigned d)) x y) at
 
 -- between two pointers: equality is always defined, an order along one object alone
 abbrev pub compared : Binary → ℕ → ℕ → Place → Run ℕ
-compared op x y at = if is_order op
+compared op x y at = if is_order (group op)
     then along (pos x) (pos y) x at >> outcome (binary_word op true x y) at
     else outcome (binary_word op true x y) at
 
-abbrev pub sum : Operand → Operand → ℕ → ℕ → Place → Run ℕ
-sum (Pointer size) d x y at = moved size (amount d y) x at
-sum c (Pointer size) x y at = moved size (amount c x) y at
-sum c d x y at = arithmetic binary.Plus c d x y at
+abbrev pub sum : Binary → Operand → Operand → ℕ → ℕ → Place → Run ℕ
+sum op (Pointer size) d x y at = moved size (amount d y) x at
+sum op c (Pointer size) x y at = moved size (amount c x) y at
+sum op c d x y at = arithmetic op c d x y at
 
-abbrev pub difference : Operand → Operand → ℕ → ℕ → Place → Run ℕ
-difference (Pointer size) (Pointer other) x y at = distance size x y at
-difference (Pointer size) d x y at = moved size (neg_ℤ (amount d y)) x at
-difference c d x y at = arithmetic binary.Minus c d x y at
+abbrev pub difference : Binary → Operand → Operand → ℕ → ℕ → Place → Run ℕ
+difference op (Pointer size) (Pointer other) x y at = distance size x y at
+difference op (Pointer size) d x y at = moved size (neg_ℤ (amount d y)) x at
+difference op c d x y at = arithmetic op c d x y at
 
 abbrev pub other_act : Binary → Operand → Operand → ℕ → ℕ → Place → Run ℕ
 other_act op (Pointer size) d x y at = compared op x y at
 other_act op c d x y at = arithmetic op c d x y at
 
+abbrev pub group_act : Group → Binary → Operand → Operand → ℕ → ℕ → Place → Run ℕ
+group_act by.Sum op c d x y at = sum op c d x y at
+group_act by.Difference op c d x y at = difference op c d x y at
+group_act _ op c d x y at = other_act op c d x y at
+
 -- what an operator does with two values (6.5.5 to 6.5.12)
 abbrev pub binary_act : Binary → Operand → Operand → ℕ → ℕ → Place → Run ℕ
-binary_act binary.Plus c d x y at = sum c d x y at
-binary_act binary.Minus c d x y at = difference c d x y at
-binary_act op c d x y at = other_act op c d x y at
+binary_act op c d x y at = group_act (group op) op c d x y at
 
 -- `&&` and `||` evaluate the right operand only where the left one doesn't decide (6.5.13, 6.5.14)
 abbrev pub logic : Binary → Run ℕ → Run ℕ → Run ℕ
 logic op a b = do
   x ← a
-  y ← (if decides op x then pure x else b)
+  y ← (if decides (group op) x then pure x else b)
   count
   pure (truth (not (y == 0)))
 
@@ -117,7 +115,7 @@ strict op c d at a b = do
   binary_act op c d x y at
 
 abbrev pub binary_run : Binary → Operand → Operand → Place → Run ℕ → Run ℕ → Run ℕ
-binary_run op c d at a b = if is_logic op then logic op a b else strict op c d at a b
+binary_run op c d at a b = if is_logic (group op) then logic op a b else strict op c d at a b
 
 -- `*a` (6.5.3.2)
 abbrev pub pointee : Held → Place → Run ℕ → Run ℕ

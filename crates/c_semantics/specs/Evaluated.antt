@@ -14,7 +14,7 @@ use Rattle.c_tree.specs.Init as initial
 use Rattle.c_tree.specs.Var.{Var}
 use Rattle.c_tree.specs.First.{First}
 use Rattle.c_tree.specs.First as for_first
-use Rattle.c_tree.specs.Stmt.{Stmt, Stmts}
+use Rattle.c_tree.specs.Stmt.{Stmt, Stmts, ElseBranch}
 use Rattle.c_tree.specs.Stmt as stmt
 use Rattle.c_tree.specs.Fun.{Param, Fun}
 use Rattle.c_tree.specs.Item.{Item}
@@ -137,10 +137,9 @@ module _ (result : Ty) where
     IsExecutable names places (stmt.Vars ds at) = AreDeclarable names places ds
     IsExecutable names places (stmt.Block body at) = AreExecutable names places body
     IsExecutable names places (stmt.Marker marker at) = Unit {0}
-    IsExecutable names places (stmt.If c s at) = IsEvaluable names c × IsExecutable names places s
-    IsExecutable names places (stmt.IfElse c s other at) =
+    IsExecutable names places (stmt.If c s other at) =
         IsEvaluable names c × IsExecutable names places s
-        × IsExecutable names (behind s places) other
+        × IsExecutableElse names (behind s places) other
     IsExecutable names places (stmt.While c s at) =
         IsEvaluable names c × IsExecutable names places s
     IsExecutable names places (stmt.Do s c at) = IsExecutable names places s × IsEvaluable names c
@@ -152,6 +151,10 @@ module _ (result : Ty) where
     IsExecutable names places (stmt.Return value at) = IsReturnable names result value
     IsExecutable names places (stmt.Break at) = Unit {0}
     IsExecutable names places (stmt.Continue at) = Unit {0}
+
+    pub IsExecutableElse : Names → List ℕ → ElseBranch → Type 0
+    IsExecutableElse names places stmt.NoElse = Unit {0}
+    IsExecutableElse names places (stmt.Else s) = IsExecutable names places s
 
     pub AreExecutable : Names → List ℕ → Stmts → Type 0
     AreExecutable names places stmt.NoMore = Unit {0}

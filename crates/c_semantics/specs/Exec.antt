@@ -7,7 +7,7 @@ use Rattle.c_tree.specs.Init as initial
 use Rattle.c_tree.specs.Var.{Var}
 use Rattle.c_tree.specs.First.{First}
 use Rattle.c_tree.specs.First as for_first
-use Rattle.c_tree.specs.Stmt.{Stmt, Stmts}
+use Rattle.c_tree.specs.Stmt.{Stmt, Stmts, ElseBranch}
 use Rattle.c_tree.specs.Stmt as stmt
 use Rattle.c_tree.specs.Declarators.{declared_shape}
 use Rattle.c_tree.specs.Arithmetic.{converted}
@@ -185,14 +185,10 @@ module _ (input : List ℕ) (calls : Calls) where
       exec names places (stmt.Marker marker at) = do
         count
         pure Normal
-      exec names places (stmt.If c s at) = do
+      exec names places (stmt.If c s other at) = do
         count
         x ← eval input calls names c
-        if x == 0 then pure Normal else exec names places s
-      exec names places (stmt.IfElse c s other at) = do
-        count
-        x ← eval input calls names c
-        if x == 0 then exec names (behind s places) other else exec names places s
+        if x == 0 then exec_else names (behind s places) other else exec names places s
       exec names places (stmt.While c s at) = do
         count
         loop (eval input calls names c) (exec names places s) (pure tt)
@@ -218,6 +214,11 @@ module _ (input : List ℕ) (calls : Calls) where
       exec names places (stmt.Continue at) = do
         count
         pure AtContinue
+
+      -- the branch that may be left out
+      pub exec_else : Names → List ℕ → ElseBranch → Run Flow
+      exec_else names places stmt.NoElse = pure Normal
+      exec_else names places (stmt.Else s) = exec names places s
 
       -- the statements of a block, in their order
       pub exec_all : Names → List ℕ → Stmts → Run Flow

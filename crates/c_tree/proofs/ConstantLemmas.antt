@@ -4,21 +4,23 @@ use Rattle.c_tree.specs.declared.breach.Breach.{Breach}
 use Rattle.c_tree.specs.declared.breach.Broken.{Broken}
 use Rattle.c_tree.specs.declared.breach.Broken.TheVariants.{NotConstant, Unknown}
 use Rattle.c_tree.specs.declared.operator.Binary.{Binary}
-use Rattle.c_tree.specs.declared.operator.Binary.TheVariants as binary
+use Rattle.c_tree.specs.declared.operator.Group.{Group}
+use Rattle.c_tree.specs.declared.operator.Group.TheVariants as by
 use Rattle.c_tree.specs.declared.operator.Unary.{Unary}
 use Rattle.c_tree.specs.declared.operator.Unary.TheVariants as unary
 use Rattle.c_tree.specs.declared.place.Place.{Place}
+use Rattle.c_tree.specs.Groups.{group}
 use Rattle.c_tree.specs.Ty.{Ty}
 use Rattle.c_tree.specs.Ty as ty
 use Rattle.c_tree.specs.Expr.{Expr}
 use Rattle.c_tree.specs.Expr as expr
 use Rattle.c_tree.specs.Scope.{Scope}
 use Rattle.c_tree.specs.Shapes.{is_integer, is_unsigned, decayed, promoted, common}
-use Rattle.c_tree.specs.Rules.{where_right, is_nought, is_place, binary_rule, conditional_rule, cast_rule}
+use Rattle.c_tree.specs.Rules.{where_right, is_nought, is_place, group_rule, binary_rule, conditional_rule, cast_rule}
 use Rattle.c_tree.specs.Typing.{type_at, one, both, unary_type, is_test}
 use Rattle.c_tree.specs.Breaches.{breaches}
 use Rattle.c_tree.specs.Arithmetic.{converted}
-use Rattle.c_tree.specs.Constant.{is_arithmetic, unary_shape, binary_shape, constant_shape, on_one, needs_second, chosen, value_of, is_ready, act_breaches, name_breach, foreign_name, foreign, constant_breaches}
+use Rattle.c_tree.specs.Constant.{is_arithmetic, unary_shape, group_shape, binary_shape, constant_shape, on_one, needs_second, chosen, value_of, is_ready, act_breaches, name_breach, foreign_name, foreign, constant_breaches}
 use Rattle.c_tree.proofs.LeastBreach.{HasEach}
 use Rattle.c_tree.proofs.TypingBreaches.{each-append, each_unless}
 use Rattle.c_tree.proofs.NoBreach.{nil_left, nil_right, holds, never, and_true}
@@ -146,26 +148,23 @@ unary_integral unary.Flip place t i a = let d : decayed t ≡ t = settled t i in
 unary_integral unary.At place t i a = cc
 unary_integral unary.Address place t i a = cc
 
+group_integral : (g : Group) (n m : Bool) (t u : Ty) → is_integer t ≡ true → is_integer u ≡ true
+    → Integral (group_rule g n m (decayed t) (decayed u)) (group_shape g t u)
+group_integral by.Or n m t u i j = let d : decayed t ≡ t = settled t i in let e : decayed u ≡ u = settled u j in (refl, rw (d, e, i, j) refl)
+group_integral by.And n m t u i j = let d : decayed t ≡ t = settled t i in let e : decayed u ≡ u = settled u j in (refl, rw (d, e, i, j) refl)
+group_integral by.BitOr n m t u i j = let d : decayed t ≡ t = settled t i in let e : decayed u ≡ u = settled u j in (common_integer t u, rw (d, e, i, j) refl)
+group_integral by.BitXor n m t u i j = let d : decayed t ≡ t = settled t i in let e : decayed u ≡ u = settled u j in (common_integer t u, rw (d, e, i, j) refl)
+group_integral by.BitAnd n m t u i j = let d : decayed t ≡ t = settled t i in let e : decayed u ≡ u = settled u j in (common_integer t u, rw (d, e, i, j) refl)
+group_integral by.Equality n m t u i j = let d : decayed t ≡ t = settled t i in let e : decayed u ≡ u = settled u j in (refl, rw (d, e, i, j) refl)
+group_integral by.Order n m t u i j = let d : decayed t ≡ t = settled t i in let e : decayed u ≡ u = settled u j in (refl, rw (d, e, i, j) refl)
+group_integral by.Shift n m t u i j = let d : decayed t ≡ t = settled t i in let e : decayed u ≡ u = settled u j in (promoted_integer t i, rw (d, e, i, j) refl)
+group_integral by.Sum n m t u i j = let d : decayed t ≡ t = settled t i in let e : decayed u ≡ u = settled u j in (common_integer t u, rw (d, e, i, j) refl)
+group_integral by.Difference n m t u i j = let d : decayed t ≡ t = settled t i in let e : decayed u ≡ u = settled u j in (common_integer t u, rw (d, e, i, j) refl)
+group_integral by.Product n m t u i j = let d : decayed t ≡ t = settled t i in let e : decayed u ≡ u = settled u j in (common_integer t u, rw (d, e, i, j) refl)
+
 pub binary_integral : (op : Binary) (n m : Bool) (t u : Ty) → is_integer t ≡ true
     → is_integer u ≡ true → Integral (binary_rule op n m t u) (binary_shape op t u)
-binary_integral binary.Or n m t u i j = let d : decayed t ≡ t = settled t i in let e : decayed u ≡ u = settled u j in (refl, rw (d, e, i, j) refl)
-binary_integral binary.And n m t u i j = let d : decayed t ≡ t = settled t i in let e : decayed u ≡ u = settled u j in (refl, rw (d, e, i, j) refl)
-binary_integral binary.BitOr n m t u i j = let d : decayed t ≡ t = settled t i in let e : decayed u ≡ u = settled u j in (common_integer t u, rw (d, e, i, j) refl)
-binary_integral binary.BitXor n m t u i j = let d : decayed t ≡ t = settled t i in let e : decayed u ≡ u = settled u j in (common_integer t u, rw (d, e, i, j) refl)
-binary_integral binary.BitAnd n m t u i j = let d : decayed t ≡ t = settled t i in let e : decayed u ≡ u = settled u j in (common_integer t u, rw (d, e, i, j) refl)
-binary_integral binary.Equal n m t u i j = let d : decayed t ≡ t = settled t i in let e : decayed u ≡ u = settled u j in (refl, rw (d, e, i, j) refl)
-binary_integral binary.Unequal n m t u i j = let d : decayed t ≡ t = settled t i in let e : decayed u ≡ u = settled u j in (refl, rw (d, e, i, j) refl)
-binary_integral binary.Less n m t u i j = let d : decayed t ≡ t = settled t i in let e : decayed u ≡ u = settled u j in (refl, rw (d, e, i, j) refl)
-binary_integral binary.Greater n m t u i j = let d : decayed t ≡ t = settled t i in let e : decayed u ≡ u = settled u j in (refl, rw (d, e, i, j) refl)
-binary_integral binary.LessEqual n m t u i j = let d : decayed t ≡ t = settled t i in let e : decayed u ≡ u = settled u j in (refl, rw (d, e, i, j) refl)
-binary_integral binary.GreaterEqual n m t u i j = let d : decayed t ≡ t = settled t i in let e : decayed u ≡ u = settled u j in (refl, rw (d, e, i, j) refl)
-binary_integral binary.Left n m t u i j = let d : decayed t ≡ t = settled t i in let e : decayed u ≡ u = settled u j in (promoted_integer t i, rw (d, e, i, j) refl)
-binary_integral binary.Right n m t u i j = let d : decayed t ≡ t = settled t i in let e : decayed u ≡ u = settled u j in (promoted_integer t i, rw (d, e, i, j) refl)
-binary_integral binary.Plus n m t u i j = let d : decayed t ≡ t = settled t i in let e : decayed u ≡ u = settled u j in (common_integer t u, rw (d, e, i, j) refl)
-binary_integral binary.Minus n m t u i j = let d : decayed t ≡ t = settled t i in let e : decayed u ≡ u = settled u j in (common_integer t u, rw (d, e, i, j) refl)
-binary_integral binary.Times n m t u i j = let d : decayed t ≡ t = settled t i in let e : decayed u ≡ u = settled u j in (common_integer t u, rw (d, e, i, j) refl)
-binary_integral binary.Divide n m t u i j = let d : decayed t ≡ t = settled t i in let e : decayed u ≡ u = settled u j in (common_integer t u, rw (d, e, i, j) refl)
-binary_integral binary.Rest n m t u i j = let d : decayed t ≡ t = settled t i in let e : decayed u ≡ u = settled u j in (common_integer t u, rw (d, e, i, j) refl)
+binary_integral op n m t u i j = group_integral (group op) n m t u i j
 
 number_typed : (b : Bool) (t : Ty) (bs : List Breach) → is_integer t ≡ b → (bs ≡ [] → false ≡ true)
     → (if b then [] else bs) ≡ [] → Integral (Some t) (if b then t else ty.Int)

@@ -2,20 +2,22 @@
 use Rattle.std.proofs.Common.{◌≡◌, ℕ, ◌==◌, Bool, true, false, ◌&&◌, ◌||◌, List, [], ◌∷◌, Option, Some, None, is_some, if◌then◌else◌, refl, sym, ap, ap₂, ◌∙◌, subst, arith}
 use Rattle.std.proofs.lemmas.Bool.Decides.{nat_tests}
 use Rattle.c_tree.specs.declared.operator.Binary.{Binary}
-use Rattle.c_tree.specs.declared.operator.Binary.TheVariants as binary
+use Rattle.c_tree.specs.declared.operator.Group.{Group}
+use Rattle.c_tree.specs.declared.operator.Group.TheVariants as by
 use Rattle.c_tree.specs.declared.operator.Unary.{Unary}
 use Rattle.c_tree.specs.declared.operator.Unary.TheVariants as unary
 use Rattle.c_tree.specs.declared.operator.Step.{Step}
 use Rattle.c_tree.specs.declared.place.Place.{Place}
+use Rattle.c_tree.specs.Groups.{group, is_logic, is_sum}
 use Rattle.c_tree.specs.Ty.{Ty}
 use Rattle.c_tree.specs.Ty as ty
 use Rattle.c_tree.specs.Expr.{Expr, Exprs}
 use Rattle.c_tree.specs.Expr as expr
 use Rattle.c_tree.specs.Scope.{Known, Scope, ObjectOf, FunctionOf, look}
 use Rattle.c_tree.specs.Shapes.{same, is_integer, is_pointer, is_scalar, is_void, decayed, promoted, common}
-use Rattle.c_tree.specs.Rules.{is_nought, is_place, takes, is_sum, where_right, value_rule, conditional_value_rule, arithmetic_rule, shift_rule, sum_rule, difference_rule, order_rule, equality_rule, logic_rule, is_pointer_with, pointed, pointed_some, binary_rule, conditional_rule, index_rule, assign_rule, step_rule, cast_rule, fits}
+use Rattle.c_tree.specs.Rules.{is_nought, is_place, takes, where_right, group_rule, conditional_value_rule, arithmetic_rule, shift_rule, sum_rule, difference_rule, order_rule, equality_rule, logic_rule, is_pointer_with, pointed, pointed_some, binary_rule, conditional_rule, index_rule, assign_rule, step_rule, cast_rule, fits}
 use Rattle.c_tree.specs.Typing.{type_at, all_taken, called, one, both, object, unary_type, is_taken, is_test, result_of, parameters_of}
-use Rattle.c_tree.specs.HasType.{HasType, HasValue, AreTaken, PlusSign, MinusSign, FlipSign, IsArithmetic, ByPlus, ByMinus, ByTimes, ByDivide, ByRest, ByBitAnd, ByBitXor, ByBitOr, IsShift, ByLeft, ByRight, IsOrder, ByLess, ByGreater, ByLessEqual, ByGreaterEqual, IsEquality, ByEqual, ByUnequal, IsLogic, ByOr, ByAnd, OfName, OfNumber, OfCharacter, OfEof, OfSign, OfNot, OfContents, OfAddress, OfStep, OfCast, OfArithmetic, OfShift, OfPointerPlus, OfPlusPointer, OfPointerMinus, OfDistance, OfOrder, OfPointerOrder, OfEquality, OfPointerEquality, OfEqualityNought, OfNoughtEquality, OfLogic, OfConditional, OfPointerConditional, OfConditionalNought, OfNoughtConditional, OfAssign, OfIntegerUpdate, OfPointerUpdate, OfIndex, OfIndexTurned, OfCall, ValueOf, NoneTaken, OneTaken}
+use Rattle.c_tree.specs.HasType.{HasType, HasValue, AreTaken, PlusSign, MinusSign, FlipSign, IsArithmetic, ByBitOr, ByBitXor, ByBitAnd, BySum, ByDifference, ByProduct, OfName, OfNumber, OfCharacter, OfEof, OfSign, OfNot, OfContents, OfAddress, OfStep, OfCast, OfArithmetic, OfShift, OfPointerPlus, OfPlusPointer, OfPointerMinus, OfDistance, OfOrder, OfPointerOrder, OfEquality, OfPointerEquality, OfEqualityNought, OfNoughtEquality, OfLogic, OfConditional, OfPointerConditional, OfConditionalNought, OfNoughtConditional, OfAssign, OfIntegerUpdate, OfPointerUpdate, OfIndex, OfIndexTurned, OfCall, ValueOf, NoneTaken, OneTaken}
 use Rattle.c_tree.proofs.NoBreach.{left_true, right_true}
 
 -- ---- what a test says
@@ -77,64 +79,64 @@ module _ (scope : Scope) (a b : Expr) (at : Place) (t u : Ty) (x : HasValue scop
   second_same : (s : Ty) → t ≡ ty.Pointer s → same t u ≡ true → HasValue scope b (ty.Pointer s)
   second_same s e h = subst (HasValue scope b) (sym (same_is t u h) ∙ e) y
 
-  arithmetic_has : (op : Binary) (v : Ty) → IsArithmetic op → (is_integer t && is_integer u) ≡ true
+  arithmetic_has : (op : Binary) (v : Ty) → IsArithmetic (group op) → (is_integer t && is_integer u) ≡ true
       → Some (common t u) ≡ Some v → HasType scope (expr.Binary op a b at) v
   arithmetic_has op v k h e = subst (HasType scope (expr.Binary op a b at)) (some_is (common t u) v e) (OfArithmetic scope op a b at t u k x y (left_true _ _ h) (right_true (is_integer t) _ h))
 
-  by_arithmetic : (op : Binary) (v : Ty) → IsArithmetic op → arithmetic_rule t u ≡ Some v
+  by_arithmetic : (op : Binary) (v : Ty) → IsArithmetic (group op) → arithmetic_rule t u ≡ Some v
       → HasType scope (expr.Binary op a b at) v
   by_arithmetic op v k h = arithmetic_has op v k (right_is _ _ v h) (right_gives _ _ v h)
 
-  by_shift : (op : Binary) (v : Ty) → IsShift op → shift_rule t u ≡ Some v
+  by_shift : (op : Binary) (v : Ty) → group op ≡ by.Shift → shift_rule t u ≡ Some v
       → HasType scope (expr.Binary op a b at) v
   by_shift op v k h =
       let r = right_is _ _ v h in
       subst (HasType scope (expr.Binary op a b at)) (some_is (promoted t) v (right_gives _ _ v h)) (OfShift scope op a b at t u k x y (left_true _ _ r) (right_true (is_integer t) _ r))
 
-  pointer_plus : (v : Ty) → (is_pointer t && is_integer u) ≡ true → Some t ≡ Some v
-      → HasType scope (expr.Binary binary.Plus a b at) v
-  pointer_plus v h e =
+  pointer_plus : (op : Binary) (v : Ty) → group op ≡ by.Sum → (is_pointer t && is_integer u) ≡ true → Some t ≡ Some v
+      → HasType scope (expr.Binary op a b at) v
+  pointer_plus op v k h e =
       let p = pointer_is t (left_true _ _ h) in
-      subst (HasType scope (expr.Binary binary.Plus a b at)) (sym p.1 ∙ some_is t v e) (OfPointerPlus scope a b at p.0 u (first_pointer p.0 p.1) y (right_true (is_pointer t) _ h))
+      subst (HasType scope (expr.Binary op a b at)) (sym p.1 ∙ some_is t v e) (OfPointerPlus scope op a b at p.0 u k (first_pointer p.0 p.1) y (right_true (is_pointer t) _ h))
 
-  plus_pointer : (v : Ty) → (is_integer t && is_pointer u) ≡ true → Some u ≡ Some v
-      → HasType scope (expr.Binary binary.Plus a b at) v
-  plus_pointer v h e =
+  plus_pointer : (op : Binary) (v : Ty) → group op ≡ by.Sum → (is_integer t && is_pointer u) ≡ true → Some u ≡ Some v
+      → HasType scope (expr.Binary op a b at) v
+  plus_pointer op v k h e =
       let p = pointer_is u (right_true (is_integer t) _ h) in
-      subst (HasType scope (expr.Binary binary.Plus a b at)) (sym p.1 ∙ some_is u v e) (OfPlusPointer scope a b at t p.0 x (second_pointer p.0 p.1) (left_true _ _ h))
+      subst (HasType scope (expr.Binary op a b at)) (sym p.1 ∙ some_is u v e) (OfPlusPointer scope op a b at t p.0 k x (second_pointer p.0 p.1) (left_true _ _ h))
 
-  by_sum : (v : Ty) → sum_rule t u ≡ Some v → HasType scope (expr.Binary binary.Plus a b at) v
-  by_sum v h = go (is_integer t && is_integer u) (is_pointer t && is_integer u) refl refl h
+  by_sum : (op : Binary) (v : Ty) → group op ≡ by.Sum → sum_rule t u ≡ Some v → HasType scope (expr.Binary op a b at) v
+  by_sum op v k h = go (is_integer t && is_integer u) (is_pointer t && is_integer u) refl refl h
     where
       go : (p q : Bool) → (is_integer t && is_integer u) ≡ p → (is_pointer t && is_integer u) ≡ q
-          → (if p then Some (common t u) else if q then Some t else where_right (is_integer t && is_pointer u) (Some u)) ≡ Some v → HasType scope (expr.Binary binary.Plus a b at) v
-      go true q i j e = arithmetic_has binary.Plus v ByPlus i e
-      go false true i j e = pointer_plus v j e
-      go false false i j e = plus_pointer v (right_is _ _ v e) (right_gives _ _ v e)
+          → (if p then Some (common t u) else if q then Some t else where_right (is_integer t && is_pointer u) (Some u)) ≡ Some v → HasType scope (expr.Binary op a b at) v
+      go true q i j e = arithmetic_has op v (subst IsArithmetic (sym k) BySum) i e
+      go false true i j e = pointer_plus op v k j e
+      go false false i j e = plus_pointer op v k (right_is _ _ v e) (right_gives _ _ v e)
 
-  pointer_minus : (v : Ty) → (is_pointer t && is_integer u) ≡ true → Some t ≡ Some v
-      → HasType scope (expr.Binary binary.Minus a b at) v
-  pointer_minus v h e =
+  pointer_minus : (op : Binary) (v : Ty) → group op ≡ by.Difference → (is_pointer t && is_integer u) ≡ true → Some t ≡ Some v
+      → HasType scope (expr.Binary op a b at) v
+  pointer_minus op v k h e =
       let p = pointer_is t (left_true _ _ h) in
-      subst (HasType scope (expr.Binary binary.Minus a b at)) (sym p.1 ∙ some_is t v e) (OfPointerMinus scope a b at p.0 u (first_pointer p.0 p.1) y (right_true (is_pointer t) _ h))
+      subst (HasType scope (expr.Binary op a b at)) (sym p.1 ∙ some_is t v e) (OfPointerMinus scope op a b at p.0 u k (first_pointer p.0 p.1) y (right_true (is_pointer t) _ h))
 
-  distance : (v : Ty) → (is_pointer t && same t u) ≡ true → Some ty.Int ≡ Some v
-      → HasType scope (expr.Binary binary.Minus a b at) v
-  distance v h e =
+  distance : (op : Binary) (v : Ty) → group op ≡ by.Difference → (is_pointer t && same t u) ≡ true → Some ty.Int ≡ Some v
+      → HasType scope (expr.Binary op a b at) v
+  distance op v k h e =
       let p = pointer_is t (left_true _ _ h) in
-      subst (HasType scope (expr.Binary binary.Minus a b at)) (some_is ty.Int v e) (OfDistance scope a b at p.0 (first_pointer p.0 p.1) (second_same p.0 p.1 (right_true (is_pointer t) _ h)))
+      subst (HasType scope (expr.Binary op a b at)) (some_is ty.Int v e) (OfDistance scope op a b at p.0 k (first_pointer p.0 p.1) (second_same p.0 p.1 (right_true (is_pointer t) _ h)))
 
-  by_difference : (v : Ty) → difference_rule t u ≡ Some v
-      → HasType scope (expr.Binary binary.Minus a b at) v
-  by_difference v h = go (is_integer t && is_integer u) (is_pointer t && is_integer u) refl refl h
+  by_difference : (op : Binary) (v : Ty) → group op ≡ by.Difference → difference_rule t u ≡ Some v
+      → HasType scope (expr.Binary op a b at) v
+  by_difference op v k h = go (is_integer t && is_integer u) (is_pointer t && is_integer u) refl refl h
     where
       go : (p q : Bool) → (is_integer t && is_integer u) ≡ p → (is_pointer t && is_integer u) ≡ q
-          → (if p then Some (common t u) else if q then Some t else where_right (is_pointer t && same t u) (Some ty.Int)) ≡ Some v → HasType scope (expr.Binary binary.Minus a b at) v
-      go true q i j e = arithmetic_has binary.Minus v ByMinus i e
-      go false true i j e = pointer_minus v j e
-      go false false i j e = distance v (right_is _ _ v e) (right_gives _ _ v e)
+          → (if p then Some (common t u) else if q then Some t else where_right (is_pointer t && same t u) (Some ty.Int)) ≡ Some v → HasType scope (expr.Binary op a b at) v
+      go true q i j e = arithmetic_has op v (subst IsArithmetic (sym k) ByDifference) i e
+      go false true i j e = pointer_minus op v k j e
+      go false false i j e = distance op v k (right_is _ _ v e) (right_gives _ _ v e)
 
-  by_order : (op : Binary) (v : Ty) → IsOrder op → order_rule t u ≡ Some v
+  by_order : (op : Binary) (v : Ty) → group op ≡ by.Order → order_rule t u ≡ Some v
       → HasType scope (expr.Binary op a b at) v
   by_order op v k h =
       subst (HasType scope (expr.Binary op a b at)) (some_is ty.Int v (right_gives _ _ v h))
@@ -142,7 +144,7 @@ module _ (scope : Scope) (a b : Expr) (at : Place) (t u : Ty) (x : HasValue scop
       (λ r. OfOrder scope op a b at t u k x y (left_true _ _ r) (right_true (is_integer t) _ r))
       (λ r. let p = pointer_is t (left_true _ _ r) in OfPointerOrder scope op a b at p.0 k (first_pointer p.0 p.1) (second_same p.0 p.1 (right_true (is_pointer t) _ r))))
 
-  by_equality : (op : Binary) (v : Ty) → IsEquality op
+  by_equality : (op : Binary) (v : Ty) → group op ≡ by.Equality
       → equality_rule (is_nought a) (is_nought b) t u ≡ Some v
       → HasType scope (expr.Binary op a b at) v
   by_equality op v k h =
@@ -162,32 +164,26 @@ module _ (scope : Scope) (a b : Expr) (at : Place) (t u : Ty) (x : HasValue scop
       (λ e. OfPointerEquality scope op a b at p.0 k (subst (HasValue scope a) (sym (same_is u t e) ∙ p.1) x) (second_pointer p.0 p.1))
       (λ n. OfNoughtEquality scope op a b at p.0 k n (second_pointer p.0 p.1))))
 
-  by_logic : (op : Binary) (v : Ty) → IsLogic op → logic_rule t u ≡ Some v
+  by_logic : (op : Binary) (v : Ty) → is_logic (group op) ≡ true → logic_rule t u ≡ Some v
       → HasType scope (expr.Binary op a b at) v
   by_logic op v k h =
       let r = right_is _ _ v h in
       subst (HasType scope (expr.Binary op a b at)) (some_is ty.Int v (right_gives _ _ v h)) (OfLogic scope op a b at t u k x y (left_true (is_scalar t) _ r) (right_true (is_scalar t) _ r))
 
-  by_value : (op : Binary) (v : Ty) → value_rule op (is_nought a) (is_nought b) t u ≡ Some v
+  by_group : (op : Binary) (v : Ty) (g : Group) → group op ≡ g
+      → group_rule g (is_nought a) (is_nought b) t u ≡ Some v
       → HasType scope (expr.Binary op a b at) v
-  by_value binary.Or v h = by_logic binary.Or v ByOr h
-  by_value binary.And v h = by_logic binary.And v ByAnd h
-  by_value binary.BitOr v h = by_arithmetic binary.BitOr v ByBitOr h
-  by_value binary.BitXor v h = by_arithmetic binary.BitXor v ByBitXor h
-  by_value binary.BitAnd v h = by_arithmetic binary.BitAnd v ByBitAnd h
-  by_value binary.Equal v h = by_equality binary.Equal v ByEqual h
-  by_value binary.Unequal v h = by_equality binary.Unequal v ByUnequal h
-  by_value binary.Less v h = by_order binary.Less v ByLess h
-  by_value binary.Greater v h = by_order binary.Greater v ByGreater h
-  by_value binary.LessEqual v h = by_order binary.LessEqual v ByLessEqual h
-  by_value binary.GreaterEqual v h = by_order binary.GreaterEqual v ByGreaterEqual h
-  by_value binary.Left v h = by_shift binary.Left v ByLeft h
-  by_value binary.Right v h = by_shift binary.Right v ByRight h
-  by_value binary.Plus v h = by_sum v h
-  by_value binary.Minus v h = by_difference v h
-  by_value binary.Times v h = by_arithmetic binary.Times v ByTimes h
-  by_value binary.Divide v h = by_arithmetic binary.Divide v ByDivide h
-  by_value binary.Rest v h = by_arithmetic binary.Rest v ByRest h
+  by_group op v by.Or k h = by_logic op v (ap is_logic k) h
+  by_group op v by.And k h = by_logic op v (ap is_logic k) h
+  by_group op v by.BitOr k h = by_arithmetic op v (subst IsArithmetic (sym k) ByBitOr) h
+  by_group op v by.BitXor k h = by_arithmetic op v (subst IsArithmetic (sym k) ByBitXor) h
+  by_group op v by.BitAnd k h = by_arithmetic op v (subst IsArithmetic (sym k) ByBitAnd) h
+  by_group op v by.Equality k h = by_equality op v k h
+  by_group op v by.Order k h = by_order op v k h
+  by_group op v by.Shift k h = by_shift op v k h
+  by_group op v by.Sum k h = by_sum op v k h
+  by_group op v by.Difference k h = by_difference op v k h
+  by_group op v by.Product k h = by_arithmetic op v (subst IsArithmetic (sym k) ByProduct) h
 
 -- ---- the other nodes
 
@@ -255,11 +251,11 @@ by_assign : (scope : Scope) (how : Option Binary) (a b : Expr) (at : Place) (t u
 by_assign scope None a b at t u v p x y f e = subst (HasType scope (expr.Assign None a b at)) (some_is t v e) (OfAssign scope a b at t u p x y f)
 by_assign scope (Some op) a b at t u v p x y f e =
     subst (HasType scope (expr.Assign (Some op) a b at)) (some_is t v e)
-    (either (is_integer t) (is_pointer t && is_sum op) (left_true (is_integer t || (is_pointer t && is_sum op)) _ f)
-    (λ i. OfIntegerUpdate scope op a b at t u p x i y (right_true (is_integer t || (is_pointer t && is_sum op)) _ f))
+    (either (is_integer t) (is_pointer t && is_sum (group op)) (left_true (is_integer t || (is_pointer t && is_sum (group op))) _ f)
+    (λ i. OfIntegerUpdate scope op a b at t u p x i y (right_true (is_integer t || (is_pointer t && is_sum (group op))) _ f))
     (λ i. let q = pointer_is t (left_true _ _ i) in
     subst (HasType scope (expr.Assign (Some op) a b at)) (sym q.1)
-    (OfPointerUpdate scope op a b at q.0 u (right_true (is_pointer t) _ i) p (subst (HasType scope a) q.1 x) y (right_true (is_integer t || (is_pointer t && is_sum op)) _ f))))
+    (OfPointerUpdate scope op a b at q.0 u (right_true (is_pointer t) _ i) p (subst (HasType scope a) q.1 x) y (right_true (is_integer t || (is_pointer t && is_sum (group op))) _ f))))
 
 -- ---- nodes with parts that may have no type
 
@@ -306,7 +302,7 @@ at_binary : (scope : Scope) (op : Binary) (a b : Expr) (at : Place) (x y : Optio
     → HasType scope (expr.Binary op a b at) v
 at_binary scope op a b at None y v f g h = cc
 at_binary scope op a b at (Some t) None v f g h = cc
-at_binary scope op a b at (Some t) (Some u) v f g h = by_value scope a b at (decayed t) (decayed u) (ValueOf scope a t (f t refl)) (ValueOf scope b u (g u refl)) op v h
+at_binary scope op a b at (Some t) (Some u) v f g h = by_group scope a b at (decayed t) (decayed u) (ValueOf scope a t (f t refl)) (ValueOf scope b u (g u refl)) op v (group op) refl h
 
 at_index : (scope : Scope) (a b : Expr) (at : Place) (x y : Option Ty) (v : Ty) → Derives scope a x
     → Derives scope b y → both index_rule x y ≡ Some v → HasType scope (expr.Index a b at) v

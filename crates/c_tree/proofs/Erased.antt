@@ -1,12 +1,13 @@
 -- A text without its markers has none, and a text that has none stays.
 use Rattle.std.specs.Prelude.{option_map}
 use Rattle.std.proofs.Common.{◌≡◌, List, [], ◌∷◌, ◌++◌, Option, Some, None, refl, ap, ap₂}
-use Rattle.c_tree.specs.Stmt.{Stmt, Stmts}
+use Rattle.c_tree.specs.Stmt.{Stmt, Stmts, ElseBranch}
 use Rattle.c_tree.specs.Stmt as stmt
 use Rattle.c_tree.specs.Item.{Item}
 use Rattle.c_tree.specs.Item as item
-use Rattle.c_tree.specs.Erase.{erased, erased_all, erased_text}
-use Rattle.c_tree.specs.Markers.{markers, all_markers, body_markers, text_markers}
+use Rattle.c_tree.specs.Erase.{erased, erased_else, erased_all, erased_text}
+use Rattle.c_tree.specs.Collect.{collect_else}
+use Rattle.c_tree.specs.Markers.{own_markers, markers, all_markers, body_markers, text_markers}
 
 mutual
   none_left : (s : Stmt) → markers (erased s) ≡ []
@@ -15,14 +16,17 @@ mutual
   none_left (stmt.Vars ds at) = refl
   none_left (stmt.Block body at) = none_left_in body
   none_left (stmt.Marker m at) = refl
-  none_left (stmt.If c s at) = none_left s
-  none_left (stmt.IfElse c s other at) = ap₂ (λ a b. a ++ b) (none_left s) (none_left other)
+  none_left (stmt.If c s other at) = ap₂ (λ a b. a ++ b) (none_left s) (none_left_else other)
   none_left (stmt.While c s at) = none_left s
   none_left (stmt.Do s c at) = none_left s
   none_left (stmt.For f c d s at) = none_left s
   none_left (stmt.Return value at) = refl
   none_left (stmt.Break at) = refl
   none_left (stmt.Continue at) = refl
+
+  none_left_else : (other : ElseBranch) → collect_else own_markers (erased_else other) ≡ []
+  none_left_else stmt.NoElse = refl
+  none_left_else (stmt.Else s) = none_left s
 
   none_left_in : (ss : Stmts) → all_markers (erased_all ss) ≡ []
   none_left_in stmt.NoMore = refl
@@ -52,14 +56,17 @@ mutual
   stays (stmt.Vars ds at) h = refl
   stays (stmt.Block body at) h = ap (λ b. stmt.Block b at) (all_stay body h)
   stays (stmt.Marker m at) h = cc
-  stays (stmt.If c s at) h = ap (λ t. stmt.If c t at) (stays s h)
-  stays (stmt.IfElse c s other at) h = ap₂ (λ t o. stmt.IfElse c t o at) (stays s (left_empty (markers s) (markers other) h)) (stays other (right_empty (markers s) (markers other) h))
+  stays (stmt.If c s other at) h = ap₂ (λ t o. stmt.If c t o at) (stays s (left_empty (markers s) (collect_else own_markers other) h)) (else_stays other (right_empty (markers s) (collect_else own_markers other) h))
   stays (stmt.While c s at) h = ap (λ t. stmt.While c t at) (stays s h)
   stays (stmt.Do s c at) h = ap (λ t. stmt.Do t c at) (stays s h)
   stays (stmt.For f c d s at) h = ap (λ t. stmt.For f c d t at) (stays s h)
   stays (stmt.Return value at) h = refl
   stays (stmt.Break at) h = refl
   stays (stmt.Continue at) h = refl
+
+  else_stays : (other : ElseBranch) → collect_else own_markers other ≡ [] → erased_else other ≡ other
+  else_stays stmt.NoElse h = refl
+  else_stays (stmt.Else s) h = ap stmt.Else (stays s h)
 
   all_stay : (ss : Stmts) → all_markers ss ≡ [] → erased_all ss ≡ ss
   all_stay stmt.NoMore h = refl

@@ -6,18 +6,18 @@ use Rattle.c_tree.specs.declared.breach.Breach.{Breach}
 use Rattle.c_tree.specs.declared.place.Place.{Place}
 use Rattle.c_tree.specs.declared.tree.Tree.{Tree}
 use Rattle.c_tree.specs.Ty.{Ty}
-use Rattle.c_tree.specs.Stmt.{Stmt, Stmts}
+use Rattle.c_tree.specs.Stmt.{Stmt, Stmts, ElseBranch}
 use Rattle.c_tree.specs.Stmt as stmt
 use Rattle.c_tree.specs.Fun.{Fun}
 use Rattle.c_tree.specs.Item.{Item}
 use Rattle.c_tree.specs.Item as item
 use Rattle.c_tree.specs.View.{items_of}
 use Rattle.c_tree.specs.Scope.{Scope, entered, empty_scope}
-use Rattle.c_tree.specs.Statements.{behind, behind_beginning, test_breaches, optional_test_breaches, unused_breaches, beginning_breaches, statement_breaches, body_breaches}
-use Rattle.c_tree.specs.Regions.{edges, body_edges, function_edges, text_edges}
+use Rattle.c_tree.specs.Statements.{behind, behind_beginning, test_breaches, optional_test_breaches, unused_breaches, beginning_breaches, statement_breaches, else_breaches, body_breaches}
+use Rattle.c_tree.specs.Regions.{edges, else_edges, body_edges, function_edges, text_edges}
 use Rattle.c_tree.specs.Accepted.{Accepted, is_defined_by, is_defined, definition_breaches, part_breaches, parts_breaches, behind_part, with_function, function_breaches, text_breaches, is_main, has_main, result_shape, again_breaches, parameters_breaches, with_parameters, parameter_shapes}
 use Rattle.c_tree.specs.Breach.{unless}
-use Rattle.c_tree.specs.Erase.{erased, erased_all, erased_part, erased_text}
+use Rattle.c_tree.specs.Erase.{erased, erased_else, erased_all, erased_part, erased_text}
 use Rattle.c_tree.proofs.Acceptance.{accepted_without, unbroken, with_main}
 use Rattle.c_tree.proofs.NoBreach.{nil_left, nil_right}
 
@@ -25,19 +25,8 @@ nil_both : (xs ys : List Breach) → xs ≡ [] → ys ≡ [] → xs ++ ys ≡ []
 nil_both xs ys h k = ap₂ (λ a b. a ++ b) h k
 
 behind_erased : (s : Stmt) (scope : Scope) → behind (erased s) scope ≡ behind s scope
-behind_erased (stmt.Empty at) scope = refl
-behind_erased (stmt.Expr e at) scope = refl
 behind_erased (stmt.Vars ds at) scope = refl
-behind_erased (stmt.Block body at) scope = refl
-behind_erased (stmt.Marker m at) scope = refl
-behind_erased (stmt.If c s at) scope = refl
-behind_erased (stmt.IfElse c s other at) scope = refl
-behind_erased (stmt.While c s at) scope = refl
-behind_erased (stmt.Do s c at) scope = refl
-behind_erased (stmt.For f c d s at) scope = refl
-behind_erased (stmt.Return value at) scope = refl
-behind_erased (stmt.Break at) scope = refl
-behind_erased (stmt.Continue at) scope = refl
+behind_erased s scope = refl
 
 module _ (result : Ty) where
   mutual
@@ -49,12 +38,10 @@ module _ (result : Ty) where
     right_erased loop (stmt.Vars ds at) scope h = h
     right_erased loop (stmt.Block body at) scope h = all_right_erased loop body (entered scope) h
     right_erased loop (stmt.Marker m at) scope h = refl
-    right_erased loop (stmt.If c s at) scope h =
-        nil_both _ _ (nil_left (test_breaches scope c at) _ h) (right_erased loop s (entered scope) (nil_right (test_breaches scope c at) _ h))
-    right_erased loop (stmt.IfElse c s other at) scope h =
+    right_erased loop (stmt.If c s other at) scope h =
         let two = nil_right (test_breaches scope c at) _ h in
         nil_both _ _ (nil_left (test_breaches scope c at) _ h)
-        (nil_both _ _ (right_erased loop s (entered scope) (nil_left _ _ two)) (right_erased loop other (entered scope) (nil_right (statement_breaches result loop s (entered scope)) _ two)))
+        (nil_both _ _ (right_erased loop s (entered scope) (nil_left _ _ two)) (else_right_erased loop other scope (nil_right (statement_breaches result loop s (entered scope)) _ two)))
     right_erased loop (stmt.While c s at) scope h =
         nil_both _ _ (nil_left (test_breaches scope c at) _ h) (right_erased true s (entered scope) (nil_right (test_breaches scope c at) _ h))
     right_erased loop (stmt.Do s c at) scope h =
@@ -69,6 +56,12 @@ module _ (result : Ty) where
     right_erased loop (stmt.Return value at) scope h = h
     right_erased loop (stmt.Break at) scope h = h
     right_erased loop (stmt.Continue at) scope h = h
+
+    else_right_erased : (loop : Bool) (other : ElseBranch) (scope : Scope)
+        → else_breaches result loop other scope ≡ []
+        → else_breaches result loop (erased_else other) scope ≡ []
+    else_right_erased loop stmt.NoElse scope h = refl
+    else_right_erased loop (stmt.Else s) scope h = right_erased loop s (entered scope) h
 
     all_right_erased : (loop : Bool) (body : Stmts) (scope : Scope)
         → body_breaches result loop body scope ≡ []
@@ -85,14 +78,17 @@ mutual
   no_edges block (stmt.Vars ds at) = refl
   no_edges block (stmt.Block body at) = no_edges_in (Some at) body
   no_edges block (stmt.Marker m at) = refl
-  no_edges block (stmt.If c s at) = no_edges None s
-  no_edges block (stmt.IfElse c s other at) = ap₂ (λ a b. a ++ b) (no_edges None s) (no_edges None other)
+  no_edges block (stmt.If c s other at) = ap₂ (λ a b. a ++ b) (no_edges None s) (no_else_edges other)
   no_edges block (stmt.While c s at) = no_edges None s
   no_edges block (stmt.Do s c at) = no_edges None s
   no_edges block (stmt.For f c d s at) = no_edges None s
   no_edges block (stmt.Return value at) = refl
   no_edges block (stmt.Break at) = refl
   no_edges block (stmt.Continue at) = refl
+
+  no_else_edges : (other : ElseBranch) → else_edges (erased_else other) ≡ []
+  no_else_edges stmt.NoElse = refl
+  no_else_edges (stmt.Else s) = no_edges None s
 
   no_edges_in : (block : Option Place) (body : Stmts) → body_edges block (erased_all body) ≡ []
   no_edges_in block stmt.NoMore = refl

@@ -1,11 +1,13 @@
 -- A node with a part that has no type breaks a rule where no types for such parts would make it right.
 use Rattle.std.proofs.Common.{◌≡◌, Bool, true, false, ◌&&◌, ◌||◌, Option, Some, None, is_some, refl, sym, ap, subst}
 use Rattle.c_tree.specs.declared.operator.Binary.{Binary}
-use Rattle.c_tree.specs.declared.operator.Binary.TheVariants as binary
+use Rattle.c_tree.specs.declared.operator.Group.{Group}
+use Rattle.c_tree.specs.declared.operator.Group.TheVariants as by
+use Rattle.c_tree.specs.Groups.{group, is_sum}
 use Rattle.c_tree.specs.Ty.{Ty}
 use Rattle.c_tree.specs.Ty as ty
 use Rattle.c_tree.specs.Shapes.{is_integer, is_void, decayed}
-use Rattle.c_tree.specs.Rules.{where_right, is_sum, binary_rule, conditional_rule, index_rule, assign_rule}
+use Rattle.c_tree.specs.Rules.{where_right, group_rule, binary_rule, conditional_rule, index_rule, assign_rule}
 use Rattle.c_tree.specs.Breaches.{possible_right, possible_left, possible_both}
 use Rattle.c_tree.specs.Completed.{MightHave, Completed, HasNoVoid, IsExact}
 use Rattle.c_tree.proofs.ConstantLemmas.{binary_integral}
@@ -105,49 +107,37 @@ integer_left op n m u i =
     let k = binary_integral op n m ty.Int u refl i in
     first_true (is_some (binary_rule op n m ty.Int u)) (is_some (binary_rule op n m (ty.Pointer ty.Int) u)) (is_some (binary_rule op n m (decayed u) u)) (some_by _ _ k.1)
 
-pointer_right : (op : Binary) (n m : Bool) (s u : Ty)
-    → is_some (binary_rule op n m (ty.Pointer s) u) ≡ true
-    → possible_right (binary_rule op n m) (ty.Pointer s) ≡ true
-pointer_right binary.Or n m s u h = refl
-pointer_right binary.And n m s u h = refl
-pointer_right binary.BitOr n m s u h = cc
-pointer_right binary.BitXor n m s u h = cc
-pointer_right binary.BitAnd n m s u h = cc
-pointer_right binary.Equal n m s u h = third_right (binary_rule binary.Equal n m) (ty.Pointer s) (rw (same_itself s) refl)
-pointer_right binary.Unequal n m s u h = third_right (binary_rule binary.Unequal n m) (ty.Pointer s) (rw (same_itself s) refl)
-pointer_right binary.Less n m s u h = third_right (binary_rule binary.Less n m) (ty.Pointer s) (rw (same_itself s) refl)
-pointer_right binary.Greater n m s u h = third_right (binary_rule binary.Greater n m) (ty.Pointer s) (rw (same_itself s) refl)
-pointer_right binary.LessEqual n m s u h = third_right (binary_rule binary.LessEqual n m) (ty.Pointer s) (rw (same_itself s) refl)
-pointer_right binary.GreaterEqual n m s u h = third_right (binary_rule binary.GreaterEqual n m) (ty.Pointer s) (rw (same_itself s) refl)
-pointer_right binary.Left n m s u h = cc
-pointer_right binary.Right n m s u h = cc
-pointer_right binary.Plus n m s u h = refl
-pointer_right binary.Minus n m s u h = refl
-pointer_right binary.Times n m s u h = cc
-pointer_right binary.Divide n m s u h = cc
-pointer_right binary.Rest n m s u h = cc
+-- the rule of a group on the types of two parts as they stand
+abbrev ruled : Group → Bool → Bool → Ty → Ty → Option Ty
+ruled g n m t u = group_rule g n m (decayed t) (decayed u)
 
-pointer_left : (op : Binary) (n m : Bool) (t s : Ty)
-    → is_some (binary_rule op n m t (ty.Pointer s)) ≡ true
-    → possible_left (binary_rule op n m) (ty.Pointer s) ≡ true
-pointer_left binary.Or n m t s h = refl
-pointer_left binary.And n m t s h = refl
-pointer_left binary.BitOr n m t s h = never_right (is_integer (decayed t)) _ h
-pointer_left binary.BitXor n m t s h = never_right (is_integer (decayed t)) _ h
-pointer_left binary.BitAnd n m t s h = never_right (is_integer (decayed t)) _ h
-pointer_left binary.Equal n m t s h = third_left (binary_rule binary.Equal n m) (ty.Pointer s) (rw (same_itself s) refl)
-pointer_left binary.Unequal n m t s h = third_left (binary_rule binary.Unequal n m) (ty.Pointer s) (rw (same_itself s) refl)
-pointer_left binary.Less n m t s h = third_left (binary_rule binary.Less n m) (ty.Pointer s) (rw (same_itself s) refl)
-pointer_left binary.Greater n m t s h = third_left (binary_rule binary.Greater n m) (ty.Pointer s) (rw (same_itself s) refl)
-pointer_left binary.LessEqual n m t s h = third_left (binary_rule binary.LessEqual n m) (ty.Pointer s) (rw (same_itself s) refl)
-pointer_left binary.GreaterEqual n m t s h = third_left (binary_rule binary.GreaterEqual n m) (ty.Pointer s) (rw (same_itself s) refl)
-pointer_left binary.Left n m t s h = never_right (is_integer (decayed t)) _ h
-pointer_left binary.Right n m t s h = never_right (is_integer (decayed t)) _ h
-pointer_left binary.Plus n m t s h = refl
-pointer_left binary.Minus n m t s h = third_left (binary_rule binary.Minus n m) (ty.Pointer s) (rw (same_itself s) refl)
-pointer_left binary.Times n m t s h = never_right (is_integer (decayed t)) _ h
-pointer_left binary.Divide n m t s h = never_right (is_integer (decayed t)) _ h
-pointer_left binary.Rest n m t s h = never_right (is_integer (decayed t)) _ h
+pointer_right : (g : Group) (n m : Bool) (s u : Ty) → is_some (ruled g n m (ty.Pointer s) u) ≡ true
+    → possible_right (ruled g n m) (ty.Pointer s) ≡ true
+pointer_right by.Or n m s u h = refl
+pointer_right by.And n m s u h = refl
+pointer_right by.BitOr n m s u h = cc
+pointer_right by.BitXor n m s u h = cc
+pointer_right by.BitAnd n m s u h = cc
+pointer_right by.Equality n m s u h = third_right (ruled by.Equality n m) (ty.Pointer s) (rw (same_itself s) refl)
+pointer_right by.Order n m s u h = third_right (ruled by.Order n m) (ty.Pointer s) (rw (same_itself s) refl)
+pointer_right by.Shift n m s u h = cc
+pointer_right by.Sum n m s u h = refl
+pointer_right by.Difference n m s u h = refl
+pointer_right by.Product n m s u h = cc
+
+pointer_left : (g : Group) (n m : Bool) (t s : Ty) → is_some (ruled g n m t (ty.Pointer s)) ≡ true
+    → possible_left (ruled g n m) (ty.Pointer s) ≡ true
+pointer_left by.Or n m t s h = refl
+pointer_left by.And n m t s h = refl
+pointer_left by.BitOr n m t s h = never_right (is_integer (decayed t)) _ h
+pointer_left by.BitXor n m t s h = never_right (is_integer (decayed t)) _ h
+pointer_left by.BitAnd n m t s h = never_right (is_integer (decayed t)) _ h
+pointer_left by.Equality n m t s h = third_left (ruled by.Equality n m) (ty.Pointer s) (rw (same_itself s) refl)
+pointer_left by.Order n m t s h = third_left (ruled by.Order n m) (ty.Pointer s) (rw (same_itself s) refl)
+pointer_left by.Shift n m t s h = never_right (is_integer (decayed t)) _ h
+pointer_left by.Sum n m t s h = refl
+pointer_left by.Difference n m t s h = third_left (ruled by.Difference n m) (ty.Pointer s) (rw (same_itself s) refl)
+pointer_left by.Product n m t s h = never_right (is_integer (decayed t)) _ h
 
 binary_none : (op : Binary) (n m : Bool) → possible_both (binary_rule op n m) None None ≡ true
 binary_none op n m = let k : possible_right (binary_rule op n m) ty.Int ≡ true = integer_right op n m ty.Int refl in rw k refl
@@ -158,8 +148,8 @@ binary_right op n m ty.Int u v h = integer_right op n m ty.Int refl
 binary_right op n m ty.Unsigned u v h = integer_right op n m ty.Unsigned refl
 binary_right op n m ty.Char u v h = integer_right op n m ty.Char refl
 binary_right op n m ty.Void u v h = cc
-binary_right op n m (ty.Pointer s) u v h = pointer_right op n m s u h
-binary_right op n m (ty.Array s k) u v h = pointer_right op n m s u h
+binary_right op n m (ty.Pointer s) u v h = pointer_right (group op) n m s u h
+binary_right op n m (ty.Array s k) u v h = pointer_right (group op) n m s u h
 
 binary_left : (op : Binary) (n m : Bool) (t u : Ty) → is_void u ≡ false
     → is_some (binary_rule op n m t u) ≡ true → possible_left (binary_rule op n m) u ≡ true
@@ -167,8 +157,8 @@ binary_left op n m t ty.Int v h = integer_left op n m ty.Int refl
 binary_left op n m t ty.Unsigned v h = integer_left op n m ty.Unsigned refl
 binary_left op n m t ty.Char v h = integer_left op n m ty.Char refl
 binary_left op n m t ty.Void v h = cc
-binary_left op n m t (ty.Pointer s) v h = pointer_left op n m t s h
-binary_left op n m t (ty.Array s k) v h = pointer_left op n m t s h
+binary_left op n m t (ty.Pointer s) v h = pointer_left (group op) n m t s h
+binary_left op n m t (ty.Array s k) v h = pointer_left (group op) n m t s h
 
 pub binary_exact : (op : Binary) (n m : Bool) → IsExact (binary_rule op n m)
 binary_exact op n m = exact (binary_rule op n m) (record { right = binary_right op n m; left = binary_left op n m; none = binary_none op n m })
@@ -232,7 +222,7 @@ assign_right None n (ty.Array s k) u v h = cc
 assign_right (Some op) n ty.Int u v h = refl
 assign_right (Some op) n ty.Unsigned u v h = refl
 assign_right (Some op) n ty.Char u v h = refl
-assign_right (Some op) n (ty.Pointer s) u v h = go (is_sum op) h
+assign_right (Some op) n (ty.Pointer s) u v h = go (is_sum (group op)) h
   where
     go : (b : Bool) → is_some (where_right (b && is_integer (decayed u)) (Some (ty.Pointer s)))
         ≡ true

@@ -3,18 +3,20 @@ use Rattle.std.proofs.Common.{◌≡◌, ◌==◌, Bool, true, false, ◌&&◌, 
 use Rattle.std.specs.Prelude.{option_map}
 use Rattle.std.proofs.lemmas.Bool.Decides.{nat_tests}
 use Rattle.c_tree.specs.declared.operator.Binary.{Binary}
-use Rattle.c_tree.specs.declared.operator.Binary.TheVariants as binary
+use Rattle.c_tree.specs.declared.operator.Group.{Group}
+use Rattle.c_tree.specs.declared.operator.Group.TheVariants as by
 use Rattle.c_tree.specs.declared.operator.Unary.{Unary}
 use Rattle.c_tree.specs.declared.operator.Unary.TheVariants as unary
+use Rattle.c_tree.specs.Groups.{group, is_logic}
 use Rattle.c_tree.specs.Ty.{Ty}
 use Rattle.c_tree.specs.Ty as ty
 use Rattle.c_tree.specs.Expr.{Expr, Exprs}
 use Rattle.c_tree.specs.Expr as expr
 use Rattle.c_tree.specs.Scope.{Scope, FunctionOf}
 use Rattle.c_tree.specs.Shapes.{same, is_integer, is_pointer, is_scalar, is_void, decayed, promoted, common}
-use Rattle.c_tree.specs.Rules.{is_nought, is_place, takes, where_right, value_rule, conditional_value_rule, sum_rule, pointed_some, binary_rule, conditional_rule, index_rule, assign_rule, unary_value_rule, cast_rule, fits}
+use Rattle.c_tree.specs.Rules.{is_nought, is_place, takes, where_right, group_rule, conditional_value_rule, shift_rule, order_rule, equality_rule, sum_rule, difference_rule, pointed_some, binary_rule, conditional_rule, index_rule, assign_rule, unary_value_rule, cast_rule, fits}
 use Rattle.c_tree.specs.Typing.{type_at, all_taken, one, both, unary_type, is_taken, is_test, result_of}
-use Rattle.c_tree.specs.HasType.{HasType, HasValue, AreTaken, IsSign, PlusSign, MinusSign, FlipSign, IsArithmetic, ByPlus, ByMinus, ByTimes, ByDivide, ByRest, ByBitAnd, ByBitXor, ByBitOr, IsShift, ByLeft, ByRight, IsOrder, ByLess, ByGreater, ByLessEqual, ByGreaterEqual, IsEquality, ByEqual, ByUnequal, IsLogic, ByOr, ByAnd, OfName, OfNumber, OfCharacter, OfEof, OfSign, OfNot, OfContents, OfAddress, OfStep, OfCast, OfArithmetic, OfShift, OfPointerPlus, OfPlusPointer, OfPointerMinus, OfDistance, OfOrder, OfPointerOrder, OfEquality, OfPointerEquality, OfEqualityNought, OfNoughtEquality, OfLogic, OfConditional, OfPointerConditional, OfConditionalNought, OfNoughtConditional, OfAssign, OfIntegerUpdate, OfPointerUpdate, OfIndex, OfIndexTurned, OfCall, ValueOf, NoneTaken, OneTaken}
+use Rattle.c_tree.specs.HasType.{HasType, HasValue, AreTaken, IsSign, PlusSign, MinusSign, FlipSign, IsArithmetic, ByBitOr, ByBitXor, ByBitAnd, BySum, ByDifference, ByProduct, OfName, OfNumber, OfCharacter, OfEof, OfSign, OfNot, OfContents, OfAddress, OfStep, OfCast, OfArithmetic, OfShift, OfPointerPlus, OfPlusPointer, OfPointerMinus, OfDistance, OfOrder, OfPointerOrder, OfEquality, OfPointerEquality, OfEqualityNought, OfNoughtEquality, OfLogic, OfConditional, OfPointerConditional, OfConditionalNought, OfNoughtConditional, OfAssign, OfIntegerUpdate, OfPointerUpdate, OfIndex, OfIndexTurned, OfCall, ValueOf, NoneTaken, OneTaken}
 use Rattle.c_tree.proofs.ConstantLemmas.{settled}
 use Rattle.c_tree.proofs.NoBreach.{left_true, and_true}
 
@@ -65,45 +67,37 @@ cast_by : (to : Ty) (x : Option Ty) (v : Ty) → option_map decayed x ≡ Some v
     → is_integer v ≡ true → one (cast_rule to) x ≡ Some to
 cast_by to x v h i j = one_by (λ v. where_right (is_integer to && is_integer v) (Some to)) x v h ∙ rw (i, j) refl
 
-arithmetic_by : (op : Binary) → IsArithmetic op → (n m : Bool) (t u : Ty) → is_integer t ≡ true
-    → is_integer u ≡ true → value_rule op n m t u ≡ Some (common t u)
-arithmetic_by _ ByPlus n m t u i j = rw (i, j) refl
-arithmetic_by _ ByMinus n m t u i j = rw (i, j) refl
-arithmetic_by _ ByTimes n m t u i j = rw (i, j) refl
-arithmetic_by _ ByDivide n m t u i j = rw (i, j) refl
-arithmetic_by _ ByRest n m t u i j = rw (i, j) refl
-arithmetic_by _ ByBitAnd n m t u i j = rw (i, j) refl
-arithmetic_by _ ByBitXor n m t u i j = rw (i, j) refl
+arithmetic_by : (g : Group) → IsArithmetic g → (n m : Bool) (t u : Ty) → is_integer t ≡ true
+    → is_integer u ≡ true → group_rule g n m t u ≡ Some (common t u)
 arithmetic_by _ ByBitOr n m t u i j = rw (i, j) refl
+arithmetic_by _ ByBitXor n m t u i j = rw (i, j) refl
+arithmetic_by _ ByBitAnd n m t u i j = rw (i, j) refl
+arithmetic_by _ BySum n m t u i j = rw (i, j) refl
+arithmetic_by _ ByDifference n m t u i j = rw (i, j) refl
+arithmetic_by _ ByProduct n m t u i j = rw (i, j) refl
 
-shift_by : (op : Binary) → IsShift op → (n m : Bool) (t u : Ty) → is_integer t ≡ true
-    → is_integer u ≡ true → value_rule op n m t u ≡ Some (promoted t)
-shift_by _ ByLeft n m t u i j = rw (i, j) refl
-shift_by _ ByRight n m t u i j = rw (i, j) refl
+-- the rule of a group that is known
+at_group : (g h : Group) → g ≡ h → (n m : Bool) (t u : Ty)
+    → group_rule g n m t u ≡ group_rule h n m t u
+at_group g h k n m t u = ap (λ g. group_rule g n m t u) k
 
-order_by : (op : Binary) → IsOrder op → (n m : Bool) (t u : Ty) → is_integer t ≡ true
-    → is_integer u ≡ true → value_rule op n m t u ≡ Some ty.Int
-order_by _ ByLess n m t u i j = rw (i, j) refl
-order_by _ ByGreater n m t u i j = rw (i, j) refl
-order_by _ ByLessEqual n m t u i j = rw (i, j) refl
-order_by _ ByGreaterEqual n m t u i j = rw (i, j) refl
+shift_by : (t u : Ty) → is_integer t ≡ true → is_integer u ≡ true
+    → shift_rule t u ≡ Some (promoted t)
+shift_by t u i j = rw (i, j) refl
 
-pointer_order_by : (op : Binary) → IsOrder op → (n m : Bool) (t : Ty)
-    → value_rule op n m (ty.Pointer t) (ty.Pointer t) ≡ Some ty.Int
-pointer_order_by _ ByLess n m t = rw (same_itself t) refl
-pointer_order_by _ ByGreater n m t = rw (same_itself t) refl
-pointer_order_by _ ByLessEqual n m t = rw (same_itself t) refl
-pointer_order_by _ ByGreaterEqual n m t = rw (same_itself t) refl
+order_by : (t u : Ty) → is_integer t ≡ true → is_integer u ≡ true → order_rule t u ≡ Some ty.Int
+order_by t u i j = rw (i, j) refl
 
-equality_by : (op : Binary) → IsEquality op → (n m : Bool) (t u : Ty) → is_integer t ≡ true
-    → is_integer u ≡ true → value_rule op n m t u ≡ Some ty.Int
-equality_by _ ByEqual n m t u i j = rw (i, j) refl
-equality_by _ ByUnequal n m t u i j = rw (i, j) refl
+pointer_order_by : (t : Ty) → order_rule (ty.Pointer t) (ty.Pointer t) ≡ Some ty.Int
+pointer_order_by t = rw (same_itself t) refl
 
-pointer_equality_by : (op : Binary) → IsEquality op → (n m : Bool) (t : Ty)
-    → value_rule op n m (ty.Pointer t) (ty.Pointer t) ≡ Some ty.Int
-pointer_equality_by _ ByEqual n m t = rw (same_itself t) refl
-pointer_equality_by _ ByUnequal n m t = rw (same_itself t) refl
+equality_by : (n m : Bool) (t u : Ty) → is_integer t ≡ true → is_integer u ≡ true
+    → equality_rule n m t u ≡ Some ty.Int
+equality_by n m t u i j = rw (i, j) refl
+
+pointer_equality_by : (n m : Bool) (t : Ty)
+    → equality_rule n m (ty.Pointer t) (ty.Pointer t) ≡ Some ty.Int
+pointer_equality_by n m t = rw (same_itself t) refl
 
 or_true : (b : Bool) → b || true ≡ true
 or_true true = refl
@@ -113,25 +107,32 @@ pointer_with : (t u : Ty) (n : Bool) → n ≡ true
     → is_pointer (ty.Pointer t) && (same (ty.Pointer t) u || n) ≡ true
 pointer_with t u n h = rw (h, or_true (same (ty.Pointer t) u)) refl
 
-equality_nought_by : (op : Binary) → IsEquality op → (n m : Bool) (t u : Ty) → m ≡ true
-    → value_rule op n m (ty.Pointer t) u ≡ Some ty.Int
-equality_nought_by _ ByEqual n m t u h = rw (h, or_true (same (ty.Pointer t) u)) refl
-equality_nought_by _ ByUnequal n m t u h = rw (h, or_true (same (ty.Pointer t) u)) refl
+equality_nought_by : (n m : Bool) (t u : Ty) → m ≡ true
+    → equality_rule n m (ty.Pointer t) u ≡ Some ty.Int
+equality_nought_by n m t u h = rw (h, or_true (same (ty.Pointer t) u)) refl
 
 right_true : (a b c : Bool) → c ≡ true → a || b || c ≡ true
 right_true true b c h = refl
 right_true false true c h = refl
 right_true false false c h = h
 
-nought_equality_by : (op : Binary) → IsEquality op → (n m : Bool) (t u : Ty) → n ≡ true
-    → value_rule op n m t (ty.Pointer u) ≡ Some ty.Int
-nought_equality_by _ ByEqual n m t u h = rw (right_true (is_integer t && false) (is_pointer t && (same t (ty.Pointer u) || m)) _ (pointer_with u t n h)) refl
-nought_equality_by _ ByUnequal n m t u h = rw (right_true (is_integer t && false) (is_pointer t && (same t (ty.Pointer u) || m)) _ (pointer_with u t n h)) refl
+nought_equality_by : (n m : Bool) (t u : Ty) → n ≡ true
+    → equality_rule n m t (ty.Pointer u) ≡ Some ty.Int
+nought_equality_by n m t u h = rw (right_true (is_integer t && false) (is_pointer t && (same t (ty.Pointer u) || m)) _ (pointer_with u t n h)) refl
 
-logic_by : (op : Binary) → IsLogic op → (n m : Bool) (t u : Ty) → is_scalar t ≡ true
-    → is_scalar u ≡ true → value_rule op n m t u ≡ Some ty.Int
-logic_by _ ByOr n m t u i j = rw (i, j) refl
-logic_by _ ByAnd n m t u i j = rw (i, j) refl
+logic_by : (g : Group) → is_logic g ≡ true → (n m : Bool) (t u : Ty) → is_scalar t ≡ true
+    → is_scalar u ≡ true → group_rule g n m t u ≡ Some ty.Int
+logic_by by.Or k n m t u i j = rw (i, j) refl
+logic_by by.And k n m t u i j = rw (i, j) refl
+logic_by by.BitOr k n m t u i j = cc
+logic_by by.BitXor k n m t u i j = cc
+logic_by by.BitAnd k n m t u i j = cc
+logic_by by.Equality k n m t u i j = cc
+logic_by by.Order k n m t u i j = cc
+logic_by by.Shift k n m t u i j = cc
+logic_by by.Sum k n m t u i j = cc
+logic_by by.Difference k n m t u i j = cc
+logic_by by.Product k n m t u i j = cc
 
 plus_pointer_by : (t u : Ty) → is_integer t ≡ true → sum_rule t (ty.Pointer u) ≡ Some (ty.Pointer u)
 plus_pointer_by t u i = let p : is_pointer t ≡ false = not_pointer t i in rw (i, p) refl
@@ -142,13 +143,20 @@ sum_by t u i = ap pointed_some (plus_pointer_by t u i)
 pointer_sum_by : (t u : Ty) → is_integer u ≡ true → sum_rule (ty.Pointer t) u ≡ Some (ty.Pointer t)
 pointer_sum_by t u i = rw i refl
 
+pointer_difference_by : (t u : Ty) → is_integer u ≡ true
+    → difference_rule (ty.Pointer t) u ≡ Some (ty.Pointer t)
+pointer_difference_by t u i = rw i refl
+
+distance_by : (t : Ty) → difference_rule (ty.Pointer t) (ty.Pointer t) ≡ Some ty.Int
+distance_by t = rw (same_itself t) refl
+
 index_by : (x y : Option Ty) (v w : Ty) → option_map decayed x ≡ Some v
     → option_map decayed y ≡ Some w → both index_rule x y ≡ pointed_some (sum_rule v w)
 index_by x y v w h k = both_by (λ t u. pointed_some (sum_rule t u)) x y v w h k
 
 binary_by : (op : Binary) (n m : Bool) (x y : Option Ty) (v w : Ty) → option_map decayed x ≡ Some v
-    → option_map decayed y ≡ Some w → both (binary_rule op n m) x y ≡ value_rule op n m v w
-binary_by op n m x y v w h k = both_by (value_rule op n m) x y v w h k
+    → option_map decayed y ≡ Some w → both (binary_rule op n m) x y ≡ group_rule (group op) n m v w
+binary_by op n m x y v w h k = both_by (group_rule (group op) n m) x y v w h k
 
 conditional_by : (n m : Bool) (z x y : Option Ty) (s v w r : Ty) → option_map decayed z ≡ Some s
     → is_scalar s ≡ true → option_map decayed x ≡ Some v → option_map decayed y ≡ Some w
@@ -217,23 +225,23 @@ mutual
   typed_by _ _ _ (OfAddress scope a at t p h) = let k = typed_by scope a t h in rw (p, k) refl
   typed_by _ _ _ (OfStep scope how a at t p h s) = let k = typed_by scope a t h in rw (p, k) (rw s refl)
   typed_by _ _ _ (OfCast scope to a at t i v j) = cast_by to (type_at scope a) t (value_by scope a t v) i j
-  typed_by _ _ _ (OfArithmetic scope op a b at t u k v w i j) = binary_by op (is_nought a) (is_nought b) (type_at scope a) (type_at scope b) t u (value_by scope a t v) (value_by scope b u w) ∙ arithmetic_by op k (is_nought a) (is_nought b) t u i j
-  typed_by _ _ _ (OfShift scope op a b at t u k v w i j) = binary_by op (is_nought a) (is_nought b) (type_at scope a) (type_at scope b) t u (value_by scope a t v) (value_by scope b u w) ∙ shift_by op k (is_nought a) (is_nought b) t u i j
-  typed_by _ _ _ (OfPointerPlus scope a b at t u v w j) = binary_by binary.Plus (is_nought a) (is_nought b) (type_at scope a) (type_at scope b) (ty.Pointer t) u (value_by scope a (ty.Pointer t) v) (value_by scope b u w) ∙ pointer_sum_by t u j
-  typed_by _ _ _ (OfPlusPointer scope a b at t u v w i) = binary_by binary.Plus (is_nought a) (is_nought b) (type_at scope a) (type_at scope b) t (ty.Pointer u) (value_by scope a t v) (value_by scope b (ty.Pointer u) w) ∙ plus_pointer_by t u i
-  typed_by _ _ _ (OfPointerMinus scope a b at t u v w j) = binary_by binary.Minus (is_nought a) (is_nought b) (type_at scope a) (type_at scope b) (ty.Pointer t) u (value_by scope a (ty.Pointer t) v) (value_by scope b u w) ∙ rw j refl
-  typed_by _ _ _ (OfDistance scope a b at t v w) = binary_by binary.Minus (is_nought a) (is_nought b) (type_at scope a) (type_at scope b) (ty.Pointer t) (ty.Pointer t) (value_by scope a (ty.Pointer t) v) (value_by scope b (ty.Pointer t) w) ∙ rw (same_itself t) refl
-  typed_by _ _ _ (OfOrder scope op a b at t u k v w i j) = binary_by op (is_nought a) (is_nought b) (type_at scope a) (type_at scope b) t u (value_by scope a t v) (value_by scope b u w) ∙ order_by op k (is_nought a) (is_nought b) t u i j
-  typed_by _ _ _ (OfPointerOrder scope op a b at t k v w) = binary_by op (is_nought a) (is_nought b) (type_at scope a) (type_at scope b) (ty.Pointer t) (ty.Pointer t) (value_by scope a (ty.Pointer t) v) (value_by scope b (ty.Pointer t) w) ∙ pointer_order_by op k (is_nought a) (is_nought b) t
-  typed_by _ _ _ (OfEquality scope op a b at t u k v w i j) = binary_by op (is_nought a) (is_nought b) (type_at scope a) (type_at scope b) t u (value_by scope a t v) (value_by scope b u w) ∙ equality_by op k (is_nought a) (is_nought b) t u i j
-  typed_by _ _ _ (OfPointerEquality scope op a b at t k v w) = binary_by op (is_nought a) (is_nought b) (type_at scope a) (type_at scope b) (ty.Pointer t) (ty.Pointer t) (value_by scope a (ty.Pointer t) v) (value_by scope b (ty.Pointer t) w) ∙ pointer_equality_by op k (is_nought a) (is_nought b) t
+  typed_by _ _ _ (OfArithmetic scope op a b at t u k v w i j) = binary_by op (is_nought a) (is_nought b) (type_at scope a) (type_at scope b) t u (value_by scope a t v) (value_by scope b u w) ∙ arithmetic_by (group op) k (is_nought a) (is_nought b) t u i j
+  typed_by _ _ _ (OfShift scope op a b at t u k v w i j) = binary_by op (is_nought a) (is_nought b) (type_at scope a) (type_at scope b) t u (value_by scope a t v) (value_by scope b u w) ∙ (at_group (group op) by.Shift k (is_nought a) (is_nought b) t u ∙ shift_by t u i j)
+  typed_by _ _ _ (OfPointerPlus scope op a b at t u k v w j) = binary_by op (is_nought a) (is_nought b) (type_at scope a) (type_at scope b) (ty.Pointer t) u (value_by scope a (ty.Pointer t) v) (value_by scope b u w) ∙ (at_group (group op) by.Sum k (is_nought a) (is_nought b) (ty.Pointer t) u ∙ pointer_sum_by t u j)
+  typed_by _ _ _ (OfPlusPointer scope op a b at t u k v w i) = binary_by op (is_nought a) (is_nought b) (type_at scope a) (type_at scope b) t (ty.Pointer u) (value_by scope a t v) (value_by scope b (ty.Pointer u) w) ∙ (at_group (group op) by.Sum k (is_nought a) (is_nought b) t (ty.Pointer u) ∙ plus_pointer_by t u i)
+  typed_by _ _ _ (OfPointerMinus scope op a b at t u k v w j) = binary_by op (is_nought a) (is_nought b) (type_at scope a) (type_at scope b) (ty.Pointer t) u (value_by scope a (ty.Pointer t) v) (value_by scope b u w) ∙ (at_group (group op) by.Difference k (is_nought a) (is_nought b) (ty.Pointer t) u ∙ pointer_difference_by t u j)
+  typed_by _ _ _ (OfDistance scope op a b at t k v w) = binary_by op (is_nought a) (is_nought b) (type_at scope a) (type_at scope b) (ty.Pointer t) (ty.Pointer t) (value_by scope a (ty.Pointer t) v) (value_by scope b (ty.Pointer t) w) ∙ (at_group (group op) by.Difference k (is_nought a) (is_nought b) (ty.Pointer t) (ty.Pointer t) ∙ distance_by t)
+  typed_by _ _ _ (OfOrder scope op a b at t u k v w i j) = binary_by op (is_nought a) (is_nought b) (type_at scope a) (type_at scope b) t u (value_by scope a t v) (value_by scope b u w) ∙ (at_group (group op) by.Order k (is_nought a) (is_nought b) t u ∙ order_by t u i j)
+  typed_by _ _ _ (OfPointerOrder scope op a b at t k v w) = binary_by op (is_nought a) (is_nought b) (type_at scope a) (type_at scope b) (ty.Pointer t) (ty.Pointer t) (value_by scope a (ty.Pointer t) v) (value_by scope b (ty.Pointer t) w) ∙ (at_group (group op) by.Order k (is_nought a) (is_nought b) (ty.Pointer t) (ty.Pointer t) ∙ pointer_order_by t)
+  typed_by _ _ _ (OfEquality scope op a b at t u k v w i j) = binary_by op (is_nought a) (is_nought b) (type_at scope a) (type_at scope b) t u (value_by scope a t v) (value_by scope b u w) ∙ (at_group (group op) by.Equality k (is_nought a) (is_nought b) t u ∙ equality_by (is_nought a) (is_nought b) t u i j)
+  typed_by _ _ _ (OfPointerEquality scope op a b at t k v w) = binary_by op (is_nought a) (is_nought b) (type_at scope a) (type_at scope b) (ty.Pointer t) (ty.Pointer t) (value_by scope a (ty.Pointer t) v) (value_by scope b (ty.Pointer t) w) ∙ (at_group (group op) by.Equality k (is_nought a) (is_nought b) (ty.Pointer t) (ty.Pointer t) ∙ pointer_equality_by (is_nought a) (is_nought b) t)
   typed_by _ _ _ (OfEqualityNought scope op a b at t k v z) =
       let q = nought_type scope b z in
-      binary_by op (is_nought a) (is_nought b) (type_at scope a) (type_at scope b) (ty.Pointer t) q.0 (value_by scope a (ty.Pointer t) v) q.1 ∙ equality_nought_by op k (is_nought a) (is_nought b) t q.0 z
+      binary_by op (is_nought a) (is_nought b) (type_at scope a) (type_at scope b) (ty.Pointer t) q.0 (value_by scope a (ty.Pointer t) v) q.1 ∙ (at_group (group op) by.Equality k (is_nought a) (is_nought b) (ty.Pointer t) q.0 ∙ equality_nought_by (is_nought a) (is_nought b) t q.0 z)
   typed_by _ _ _ (OfNoughtEquality scope op a b at u k z w) =
       let q = nought_type scope a z in
-      binary_by op (is_nought a) (is_nought b) (type_at scope a) (type_at scope b) q.0 (ty.Pointer u) q.1 (value_by scope b (ty.Pointer u) w) ∙ nought_equality_by op k (is_nought a) (is_nought b) q.0 u z
-  typed_by _ _ _ (OfLogic scope op a b at t u k v w i j) = binary_by op (is_nought a) (is_nought b) (type_at scope a) (type_at scope b) t u (value_by scope a t v) (value_by scope b u w) ∙ logic_by op k (is_nought a) (is_nought b) t u i j
+      binary_by op (is_nought a) (is_nought b) (type_at scope a) (type_at scope b) q.0 (ty.Pointer u) q.1 (value_by scope b (ty.Pointer u) w) ∙ (at_group (group op) by.Equality k (is_nought a) (is_nought b) q.0 (ty.Pointer u) ∙ nought_equality_by (is_nought a) (is_nought b) q.0 u z)
+  typed_by _ _ _ (OfLogic scope op a b at t u k v w i j) = binary_by op (is_nought a) (is_nought b) (type_at scope a) (type_at scope b) t u (value_by scope a t v) (value_by scope b u w) ∙ logic_by (group op) k (is_nought a) (is_nought b) t u i j
   typed_by _ _ _ (OfConditional scope c a b at s t u x d v w i j) = conditional_by (is_nought a) (is_nought b) (type_at scope c) (type_at scope a) (type_at scope b) s t u (common t u) (value_by scope c s x) d (value_by scope a t v) (value_by scope b u w) (rw (i, j) refl)
   typed_by _ _ _ (OfPointerConditional scope c a b at s t x d v w) = conditional_by (is_nought a) (is_nought b) (type_at scope c) (type_at scope a) (type_at scope b) s (ty.Pointer t) (ty.Pointer t) (ty.Pointer t) (value_by scope c s x) d (value_by scope a (ty.Pointer t) v) (value_by scope b (ty.Pointer t) w) (rw (same_itself t) refl)
   typed_by _ _ _ (OfConditionalNought scope c a b at s t x d v z) =

@@ -29,7 +29,7 @@ use Rattle.c_tree.specs.Expr.{Expr}
 use Rattle.c_tree.specs.Expr as expr
 use Rattle.c_tree.specs.Stmt.{Stmt}
 use Rattle.c_tree.specs.Stmt as stmt
-use Rattle.c_tree.specs.View.{ty_of, expr_kind_of, expr_of, exprs_of, expr_step, var_of, first_of, stmt_kind_of, stmt_of, stmts_of, stmt_step, boxed_stmt_of, if_of}
+use Rattle.c_tree.specs.View.{ty_of, expr_kind_of, expr_of, exprs_of, expr_step, var_of, first_of, stmt_kind_of, stmt_of, stmts_of, stmt_step, boxed_stmt_of, else_of}
 
 pub expression_is : (e : ExprTree) → expr_of e ≡ expr_kind_of e.kind e.place
 expression_is e = fold_out-Expr (Place → Expr) Expr expr_step (λ e. e.kind e.place) e
@@ -136,7 +136,7 @@ go_on_is at = ap (λ k. stmt_kind_of k at) (sym s.rolls-Continue) ∙ built leve
 
 pub if_is : (c : ExprTree) (body : Box StmtTree Global) (other : Option (Box StmtTree Global))
     (at : Place) → stmt_kind_of (s.If c body other) at
-    ≡ if_of (expr_of c) (boxed_stmt_of body) (option_map boxed_stmt_of other) at
+    ≡ stmt.If (expr_of c) (boxed_stmt_of body) (else_of boxed_stmt_of other) at
 if_is c body None at = ap (λ k. stmt_kind_of k at) (sym (s.rolls-If c body None)) ∙ built (level.If c body None) at
 if_is c body (Some other) at = ap (λ k. stmt_kind_of k at) (sym (s.rolls-If c body (Some other))) ∙ built (level.If c body (Some other)) at
 

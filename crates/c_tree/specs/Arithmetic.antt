@@ -1,5 +1,5 @@
 -- Values of 32 bits and the arithmetic on them, which gives a value or is an undefined act (C11 6.2.5, 6.3.1.3, 6.5).
-use Rattle.std.specs.Prelude.{ℕ, ◌+◌, ◌-◌, ◌*◌, ◌/◌, ◌%◌, ◌^◌, ◌==◌, Bool, true, false, not, ◌||◌, ◌&&◌, nat_lt, if◌then◌else◌, Option, Some, None, ℤ, pos, negsuc, ◌+ℤ◌, ◌-ℤ◌, ◌*ℤ◌, neg_ℤ, int_lt, int_div, int_rem, bit_and, bit_or, bit_xor}
+use Rattle.std.specs.Prelude.{ℕ, ◌+◌, ◌-◌, ◌*◌, ◌/◌, ◌%◌, ◌^◌, ◌==◌, Bool, true, false, not, ◌||◌, ◌&&◌, nat_lt, if◌then◌else◌, Option, Some, None, Result, Ok, Err, ℤ, pos, negsuc, ◌+ℤ◌, ◌-ℤ◌, ◌*ℤ◌, neg_ℤ, int_lt, int_div, int_rem, bit_and, bit_or, bit_xor}
 use Rattle.std.specs.Int.{w32, cast_signed, cast_unsigned, int_shr}
 use Rattle.c_tree.specs.declared.operator.Binary.{Binary}
 use Rattle.c_tree.specs.declared.operator.Binary.TheVariants as binary
@@ -12,9 +12,9 @@ use Rattle.c_tree.specs.Ty as ty
 
 -- A value is a word, a number below 2^32; an int is one in two's complement.
 
-pub data Outcome : Type 0 where
-  Gives : (word : ℕ) → Outcome
-  Fails : (act : Undefined) → Outcome
+-- what arithmetic gives: a value, or the undefined act that it is
+abbrev pub Outcome : Type 0
+Outcome = Result ℕ Undefined
 
 -- the number that an int's word stands for
 abbrev pub signed : ℕ → ℤ
@@ -27,11 +27,11 @@ fits_int (negsuc n) = nat_lt n (2 ^ 31)
 
 -- a result of unsigned arithmetic wraps (6.2.5, paragraph 9)
 abbrev pub wrapped : ℕ → Outcome
-wrapped n = Gives (n % 2 ^ 32)
+wrapped n = Ok (n % 2 ^ 32)
 
 -- a result of signed arithmetic has to fit (6.5, paragraph 5)
 abbrev pub fitted : ℤ → Outcome
-fitted z = if fits_int z then Gives (cast_unsigned w32 z) else Fails Overflow
+fitted z = if fits_int z then Ok (cast_unsigned w32 z) else Err Overflow
 
 -- a test gives 1 or 0
 abbrev pub truth : Bool → ℕ
@@ -55,33 +55,33 @@ product true x y = wrapped (x * y)
 product false x y = fitted (signed x *ℤ signed y)
 
 abbrev pub quotient : Bool → ℕ → ℕ → Outcome
-quotient true x y = if y == 0 then Fails Divide else Gives (x / y)
-quotient false x y = if y == 0 then Fails Divide else fitted (int_div (signed x) (signed y))
+quotient true x y = if y == 0 then Err Divide else Ok (x / y)
+quotient false x y = if y == 0 then Err Divide else fitted (int_div (signed x) (signed y))
 
 -- the remainder of -2^31 by -1 is undefined as its quotient is
 abbrev pub remainder : Bool → ℕ → ℕ → Outcome
-remainder true x y = if y == 0 then Fails Divide else Gives (x % y)
+remainder true x y = if y == 0 then Err Divide else Ok (x % y)
 remainder false x y =
-    if y == 0 then Fails Divide
+    if y == 0 then Err Divide
     else if fits_int (int_div (signed x) (signed y))
-    then Gives (cast_unsigned w32 (int_rem (signed x) (signed y)))
-    else Fails Overflow
+    then Ok (cast_unsigned w32 (int_rem (signed x) (signed y)))
+    else Err Overflow
 
 -- 6.5.7; an amount below 0 is a word above 31
 abbrev pub within_word : ℕ → Outcome → Outcome
-within_word amount shifted = if nat_lt amount 32 then shifted else Fails Shift
+within_word amount shifted = if nat_lt amount 32 then shifted else Err Shift
 
 -- the word of a negative int is 2^31 or more, so its product doesn't fit either
 abbrev pub left_shift : Bool → ℕ → ℕ → Outcome
 left_shift true x amount = within_word amount (wrapped (x * 2 ^ amount))
 left_shift false x amount =
-    within_word amount (if nat_lt (x * 2 ^ amount) (2 ^ 31) then Gives (x * 2 ^ amount)
-    else Fails Shift)
+    within_word amount (if nat_lt (x * 2 ^ amount) (2 ^ 31) then Ok (x * 2 ^ amount)
+    else Err Shift)
 
 abbrev pub right_shift : Bool → ℕ → ℕ → Outcome
-right_shift true x amount = within_word amount (Gives (x / 2 ^ amount))
+right_shift true x amount = within_word amount (Ok (x / 2 ^ amount))
 right_shift false x amount =
-    within_word amount (Gives (cast_unsigned w32 (int_shr (signed x) amount)))
+    within_word amount (Ok (cast_unsigned w32 (int_shr (signed x) amount)))
 
 -- 6.5.8
 abbrev pub is_less : Bool → ℕ → ℕ → Bool
@@ -90,17 +90,17 @@ is_less false x y = int_lt (signed x) (signed y)
 
 -- what an operator between two integers gives, both at hand; for a shift the flag is the left one's
 abbrev pub binary_word : Binary → Bool → ℕ → ℕ → Outcome
-binary_word binary.Or unsigned x y = Gives (truth (not (x == 0) || not (y == 0)))
-binary_word binary.And unsigned x y = Gives (truth (not (x == 0) && not (y == 0)))
-binary_word binary.BitOr unsigned x y = Gives (bit_or x y)
-binary_word binary.BitXor unsigned x y = Gives (bit_xor x y)
-binary_word binary.BitAnd unsigned x y = Gives (bit_and x y)
-binary_word binary.Equal unsigned x y = Gives (truth (x == y))
-binary_word binary.Unequal unsigned x y = Gives (truth (not (x == y)))
-binary_word binary.Less unsigned x y = Gives (truth (is_less unsigned x y))
-binary_word binary.Greater unsigned x y = Gives (truth (is_less unsigned y x))
-binary_word binary.LessEqual unsigned x y = Gives (truth (not (is_less unsigned y x)))
-binary_word binary.GreaterEqual unsigned x y = Gives (truth (not (is_less unsigned x y)))
+binary_word binary.Or unsigned x y = Ok (truth (not (x == 0) || not (y == 0)))
+binary_word binary.And unsigned x y = Ok (truth (not (x == 0) && not (y == 0)))
+binary_word binary.BitOr unsigned x y = Ok (bit_or x y)
+binary_word binary.BitXor unsigned x y = Ok (bit_xor x y)
+binary_word binary.BitAnd unsigned x y = Ok (bit_and x y)
+binary_word binary.Equal unsigned x y = Ok (truth (x == y))
+binary_word binary.Unequal unsigned x y = Ok (truth (not (x == y)))
+binary_word binary.Less unsigned x y = Ok (truth (is_less unsigned x y))
+binary_word binary.Greater unsigned x y = Ok (truth (is_less unsigned y x))
+binary_word binary.LessEqual unsigned x y = Ok (truth (not (is_less unsigned y x)))
+binary_word binary.GreaterEqual unsigned x y = Ok (truth (not (is_less unsigned x y)))
 binary_word binary.Left unsigned x y = left_shift unsigned x y
 binary_word binary.Right unsigned x y = right_shift unsigned x y
 binary_word binary.Plus unsigned x y = sum unsigned x y
@@ -115,12 +115,12 @@ negative false x = fitted (neg_ℤ (signed x))
 
 -- 6.5.3.3; `*` and `&` are no arithmetic and leave the word
 abbrev pub unary_word : Unary → Bool → ℕ → Outcome
-unary_word unary.Plus unsigned x = Gives x
+unary_word unary.Plus unsigned x = Ok x
 unary_word unary.Minus unsigned x = negative unsigned x
-unary_word unary.Not unsigned x = Gives (truth (x == 0))
-unary_word unary.Flip unsigned x = Gives (2 ^ 32 - 1 - x)
-unary_word unary.At unsigned x = Gives x
-unary_word unary.Address unsigned x = Gives x
+unary_word unary.Not unsigned x = Ok (truth (x == 0))
+unary_word unary.Flip unsigned x = Ok (2 ^ 32 - 1 - x)
+unary_word unary.At unsigned x = Ok x
+unary_word unary.Address unsigned x = Ok x
 
 -- 6.3.1.3: to char modulo 2^8, else modulo 2^32
 abbrev pub converted : Ty → ℕ → ℕ
@@ -129,5 +129,5 @@ converted _ x = x % 2 ^ 32
 
 -- the value, where an act isn't undefined
 abbrev pub given : Outcome → Option ℕ
-given (Gives word) = Some word
-given (Fails act) = None
+given (Ok word) = Some word
+given (Err act) = None

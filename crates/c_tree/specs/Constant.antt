@@ -3,10 +3,11 @@ use Rattle.std.specs.Prelude.{ℕ, Bool, true, false, not, ◌&&◌, ◌||◌, �
 use Rattle.c_tree.specs.declared.breach.Breach.{Breach}
 use Rattle.c_tree.specs.declared.breach.Broken.TheVariants.{Unknown, NotConstant}
 use Rattle.c_tree.specs.declared.operator.Binary.{Binary}
-use Rattle.c_tree.specs.declared.operator.Binary.TheVariants as binary
+use Rattle.c_tree.specs.declared.operator.Group.{Group}
 use Rattle.c_tree.specs.declared.operator.Unary.{Unary}
 use Rattle.c_tree.specs.declared.operator.Unary.TheVariants as unary
 use Rattle.c_tree.specs.declared.place.Place.{Place}
+use Rattle.c_tree.specs.Groups.{group, is_logic, is_shift, gives_truth, decides}
 use Rattle.c_tree.specs.Ty.{Ty}
 use Rattle.c_tree.specs.Ty as ty
 use Rattle.c_tree.specs.Expr.{Expr}
@@ -28,26 +29,12 @@ abbrev pub unary_shape : Unary → Ty → Ty
 unary_shape unary.Not t = ty.Int
 unary_shape _ t = promoted t
 
-abbrev pub is_shift : Binary → Bool
-is_shift binary.Left = true
-is_shift binary.Right = true
-is_shift _ = false
-
--- comparisons, `&&` and `||`
-abbrev pub gives_truth : Binary → Bool
-gives_truth binary.Or = true
-gives_truth binary.And = true
-gives_truth binary.Equal = true
-gives_truth binary.Unequal = true
-gives_truth binary.Less = true
-gives_truth binary.Greater = true
-gives_truth binary.LessEqual = true
-gives_truth binary.GreaterEqual = true
-gives_truth _ = false
+abbrev pub group_shape : Group → Ty → Ty → Ty
+group_shape by t u = if gives_truth by then ty.Int else if is_shift by then promoted t
+    else common t u
 
 abbrev pub binary_shape : Binary → Ty → Ty → Ty
-binary_shape op t u = if gives_truth op then ty.Int else if is_shift op then promoted t
-    else common t u
+binary_shape op t u = group_shape (group op) t u
 
 abbrev pub integer_shape : Ty → Ty
 integer_shape t = if is_integer t then t else ty.Int
@@ -64,32 +51,21 @@ constant_shape _ = ty.Int
 
 -- whether the arithmetic of an operator on two integers is unsigned
 abbrev pub is_unsigned_act : Binary → Ty → Ty → Bool
-is_unsigned_act op t u = is_unsigned t || (not (is_shift op) && is_unsigned u)
+is_unsigned_act op t u = is_unsigned t || (not (is_shift (group op)) && is_unsigned u)
 
 abbrev pub on_one : (ℕ → Option ℕ) → Option ℕ → Option ℕ
 on_one f None = None
 on_one f (Some x) = f x
 
--- whether the first operand of `&&` or `||` decides
-abbrev pub decides : Binary → ℕ → Bool
-decides binary.And x = x == 0
-decides binary.Or x = not (x == 0)
-decides _ x = false
-
-abbrev pub is_logic : Binary → Bool
-is_logic binary.And = true
-is_logic binary.Or = true
-is_logic _ = false
-
 -- whether the second operand is evaluated, by the value of the first
 abbrev pub needs_second : Binary → Option ℕ → Bool
-needs_second op None = not (is_logic op)
-needs_second op (Some x) = not (decides op x)
+needs_second op None = not (is_logic (group op))
+needs_second op (Some x) = not (decides (group op) x)
 
 abbrev pub binary_value : Binary → Bool → Option ℕ → Option ℕ → Option ℕ
 binary_value op unsigned None y = None
 binary_value op unsigned (Some x) y =
-    if decides op x then Some (truth (not (x == 0)))
+    if decides (group op) x then Some (truth (not (x == 0)))
     else on_one (λ y. given (binary_word op unsigned x y)) y
 
 -- one of two is evaluated

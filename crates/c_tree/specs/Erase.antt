@@ -1,6 +1,6 @@
 -- A text without its markers.
 use Rattle.std.specs.Prelude.{List, map, option_map}
-use Rattle.c_tree.specs.Stmt.{Stmt, Stmts}
+use Rattle.c_tree.specs.Stmt.{Stmt, Stmts, ElseBranch}
 use Rattle.c_tree.specs.Stmt as stmt
 use Rattle.c_tree.specs.Item.{Item}
 use Rattle.c_tree.specs.Item as item
@@ -13,14 +13,17 @@ abbrev mutual
   erased (stmt.Vars ds at) = stmt.Vars ds at
   erased (stmt.Block body at) = stmt.Block (erased_all body) at
   erased (stmt.Marker m at) = stmt.Empty at
-  erased (stmt.If c s at) = stmt.If c (erased s) at
-  erased (stmt.IfElse c s other at) = stmt.IfElse c (erased s) (erased other) at
+  erased (stmt.If c s other at) = stmt.If c (erased s) (erased_else other) at
   erased (stmt.While c s at) = stmt.While c (erased s) at
   erased (stmt.Do s c at) = stmt.Do (erased s) c at
   erased (stmt.For f c d s at) = stmt.For f c d (erased s) at
   erased (stmt.Return value at) = stmt.Return value at
   erased (stmt.Break at) = stmt.Break at
   erased (stmt.Continue at) = stmt.Continue at
+
+  pub erased_else : ElseBranch → ElseBranch
+  erased_else stmt.NoElse = stmt.NoElse
+  erased_else (stmt.Else s) = stmt.Else (erased s)
 
   pub erased_all : Stmts → Stmts
   erased_all stmt.NoMore = stmt.NoMore

@@ -1,19 +1,21 @@
 -- The typing rules as a relation, one constructor a rule (C11 6.5).
 use Rattle.std.specs.Prelude.{Bool, ◌≡◌, ℕ, true, false, List, [], ◌∷◌, Some, None}
 use Rattle.c_tree.specs.declared.operator.Binary.{Binary}
-use Rattle.c_tree.specs.declared.operator.Binary.TheVariants as binary
+use Rattle.c_tree.specs.declared.operator.Group.{Group}
+use Rattle.c_tree.specs.declared.operator.Group.TheVariants as by
 use Rattle.c_tree.specs.declared.operator.Unary.{Unary}
 use Rattle.c_tree.specs.declared.operator.Unary.TheVariants as unary
 use Rattle.c_tree.specs.declared.operator.Step.{Step}
 use Rattle.c_tree.specs.declared.place.Place.{Place}
 use Rattle.c_tree.specs.declared.tree.Callee.{Callee}
+use Rattle.c_tree.specs.Groups.{group, is_logic, is_sum}
 use Rattle.c_tree.specs.Ty.{Ty}
 use Rattle.c_tree.specs.Ty as ty
 use Rattle.c_tree.specs.Expr.{Expr, Exprs}
 use Rattle.c_tree.specs.Expr as expr
 use Rattle.c_tree.specs.Scope.{ObjectOf, FunctionOf, Scope, look}
 use Rattle.c_tree.specs.Shapes.{is_integer, is_scalar, is_void, decayed, promoted, common}
-use Rattle.c_tree.specs.Rules.{is_nought, is_place, takes, is_sum}
+use Rattle.c_tree.specs.Rules.{is_nought, is_place, takes}
 use Rattle.c_tree.specs.Typing.{called}
 
 -- `+ - ~`
@@ -22,34 +24,14 @@ pub data IsSign : Unary → Type 0 where
   MinusSign : IsSign unary.Minus
   FlipSign : IsSign unary.Flip
 
--- operators on two integers that give what both are converted to
-pub data IsArithmetic : Binary → Type 0 where
-  ByPlus : IsArithmetic binary.Plus
-  ByMinus : IsArithmetic binary.Minus
-  ByTimes : IsArithmetic binary.Times
-  ByDivide : IsArithmetic binary.Divide
-  ByRest : IsArithmetic binary.Rest
-  ByBitAnd : IsArithmetic binary.BitAnd
-  ByBitXor : IsArithmetic binary.BitXor
-  ByBitOr : IsArithmetic binary.BitOr
-
-pub data IsShift : Binary → Type 0 where
-  ByLeft : IsShift binary.Left
-  ByRight : IsShift binary.Right
-
-pub data IsOrder : Binary → Type 0 where
-  ByLess : IsOrder binary.Less
-  ByGreater : IsOrder binary.Greater
-  ByLessEqual : IsOrder binary.LessEqual
-  ByGreaterEqual : IsOrder binary.GreaterEqual
-
-pub data IsEquality : Binary → Type 0 where
-  ByEqual : IsEquality binary.Equal
-  ByUnequal : IsEquality binary.Unequal
-
-pub data IsLogic : Binary → Type 0 where
-  ByOr : IsLogic binary.Or
-  ByAnd : IsLogic binary.And
+-- groups whose operators on two integers give what both are converted to
+pub data IsArithmetic : Group → Type 0 where
+  ByBitOr : IsArithmetic by.BitOr
+  ByBitXor : IsArithmetic by.BitXor
+  ByBitAnd : IsArithmetic by.BitAnd
+  BySum : IsArithmetic by.Sum
+  ByDifference : IsArithmetic by.Difference
+  ByProduct : IsArithmetic by.Product
 
 mutual
   -- the type of an expression as it stands
@@ -73,42 +55,43 @@ mutual
     OfCast : (scope : Scope) (to : Ty) (a : Expr) (at : Place) (t : Ty) → is_integer to ≡ true
         → HasValue scope a t → is_integer t ≡ true → HasType scope (expr.Cast to a at) to
     OfArithmetic : (scope : Scope) (op : Binary) (a b : Expr) (at : Place) (t u : Ty)
-        → IsArithmetic op → HasValue scope a t → HasValue scope b u → is_integer t ≡ true
+        → IsArithmetic (group op) → HasValue scope a t → HasValue scope b u → is_integer t ≡ true
         → is_integer u ≡ true → HasType scope (expr.Binary op a b at) (common t u)
-    OfShift : (scope : Scope) (op : Binary) (a b : Expr) (at : Place) (t u : Ty) → IsShift op
+    OfShift : (scope : Scope) (op : Binary) (a b : Expr) (at : Place) (t u : Ty) → group op ≡ by.Shift
         → HasValue scope a t → HasValue scope b u → is_integer t ≡ true → is_integer u ≡ true
         → HasType scope (expr.Binary op a b at) (promoted t)
-    OfPointerPlus : (scope : Scope) (a b : Expr) (at : Place) (t u : Ty)
-        → HasValue scope a (ty.Pointer t) → HasValue scope b u → is_integer u ≡ true
-        → HasType scope (expr.Binary binary.Plus a b at) (ty.Pointer t)
-    OfPlusPointer : (scope : Scope) (a b : Expr) (at : Place) (t u : Ty) → HasValue scope a t
+    OfPointerPlus : (scope : Scope) (op : Binary) (a b : Expr) (at : Place) (t u : Ty)
+        → group op ≡ by.Sum → HasValue scope a (ty.Pointer t) → HasValue scope b u → is_integer u ≡ true
+        → HasType scope (expr.Binary op a b at) (ty.Pointer t)
+    OfPlusPointer : (scope : Scope) (op : Binary) (a b : Expr) (at : Place) (t u : Ty)
+        → group op ≡ by.Sum → HasValue scope a t
         → HasValue scope b (ty.Pointer u) → is_integer t ≡ true
-        → HasType scope (expr.Binary binary.Plus a b at) (ty.Pointer u)
-    OfPointerMinus : (scope : Scope) (a b : Expr) (at : Place) (t u : Ty)
-        → HasValue scope a (ty.Pointer t) → HasValue scope b u → is_integer u ≡ true
-        → HasType scope (expr.Binary binary.Minus a b at) (ty.Pointer t)
-    OfDistance : (scope : Scope) (a b : Expr) (at : Place) (t : Ty)
-        → HasValue scope a (ty.Pointer t) → HasValue scope b (ty.Pointer t)
-        → HasType scope (expr.Binary binary.Minus a b at) ty.Int
-    OfOrder : (scope : Scope) (op : Binary) (a b : Expr) (at : Place) (t u : Ty) → IsOrder op
+        → HasType scope (expr.Binary op a b at) (ty.Pointer u)
+    OfPointerMinus : (scope : Scope) (op : Binary) (a b : Expr) (at : Place) (t u : Ty)
+        → group op ≡ by.Difference → HasValue scope a (ty.Pointer t) → HasValue scope b u → is_integer u ≡ true
+        → HasType scope (expr.Binary op a b at) (ty.Pointer t)
+    OfDistance : (scope : Scope) (op : Binary) (a b : Expr) (at : Place) (t : Ty)
+        → group op ≡ by.Difference → HasValue scope a (ty.Pointer t) → HasValue scope b (ty.Pointer t)
+        → HasType scope (expr.Binary op a b at) ty.Int
+    OfOrder : (scope : Scope) (op : Binary) (a b : Expr) (at : Place) (t u : Ty) → group op ≡ by.Order
         → HasValue scope a t → HasValue scope b u → is_integer t ≡ true → is_integer u ≡ true
         → HasType scope (expr.Binary op a b at) ty.Int
-    OfPointerOrder : (scope : Scope) (op : Binary) (a b : Expr) (at : Place) (t : Ty) → IsOrder op
+    OfPointerOrder : (scope : Scope) (op : Binary) (a b : Expr) (at : Place) (t : Ty) → group op ≡ by.Order
         → HasValue scope a (ty.Pointer t) → HasValue scope b (ty.Pointer t)
         → HasType scope (expr.Binary op a b at) ty.Int
-    OfEquality : (scope : Scope) (op : Binary) (a b : Expr) (at : Place) (t u : Ty) → IsEquality op
+    OfEquality : (scope : Scope) (op : Binary) (a b : Expr) (at : Place) (t u : Ty) → group op ≡ by.Equality
         → HasValue scope a t → HasValue scope b u → is_integer t ≡ true → is_integer u ≡ true
         → HasType scope (expr.Binary op a b at) ty.Int
     OfPointerEquality : (scope : Scope) (op : Binary) (a b : Expr) (at : Place) (t : Ty)
-        → IsEquality op → HasValue scope a (ty.Pointer t) → HasValue scope b (ty.Pointer t)
+        → group op ≡ by.Equality → HasValue scope a (ty.Pointer t) → HasValue scope b (ty.Pointer t)
         → HasType scope (expr.Binary op a b at) ty.Int
     OfEqualityNought : (scope : Scope) (op : Binary) (a b : Expr) (at : Place) (t : Ty)
-        → IsEquality op → HasValue scope a (ty.Pointer t) → is_nought b ≡ true
+        → group op ≡ by.Equality → HasValue scope a (ty.Pointer t) → is_nought b ≡ true
         → HasType scope (expr.Binary op a b at) ty.Int
     OfNoughtEquality : (scope : Scope) (op : Binary) (a b : Expr) (at : Place) (u : Ty)
-        → IsEquality op → is_nought a ≡ true → HasValue scope b (ty.Pointer u)
+        → group op ≡ by.Equality → is_nought a ≡ true → HasValue scope b (ty.Pointer u)
         → HasType scope (expr.Binary op a b at) ty.Int
-    OfLogic : (scope : Scope) (op : Binary) (a b : Expr) (at : Place) (t u : Ty) → IsLogic op
+    OfLogic : (scope : Scope) (op : Binary) (a b : Expr) (at : Place) (t u : Ty) → is_logic (group op) ≡ true
         → HasValue scope a t → HasValue scope b u → is_scalar t ≡ true → is_scalar u ≡ true
         → HasType scope (expr.Binary op a b at) ty.Int
     OfConditional : (scope : Scope) (c a b : Expr) (at : Place) (v t u : Ty) → HasValue scope c v
@@ -130,7 +113,7 @@ mutual
         → is_place a ≡ true → HasType scope a t → is_integer t ≡ true → HasValue scope b u
         → is_integer u ≡ true → HasType scope (expr.Assign (Some op) a b at) t
     OfPointerUpdate : (scope : Scope) (op : Binary) (a b : Expr) (at : Place) (t u : Ty)
-        → is_sum op ≡ true → is_place a ≡ true → HasType scope a (ty.Pointer t)
+        → is_sum (group op) ≡ true → is_place a ≡ true → HasType scope a (ty.Pointer t)
         → HasValue scope b u → is_integer u ≡ true
         → HasType scope (expr.Assign (Some op) a b at) (ty.Pointer t)
     OfIndex : (scope : Scope) (a b : Expr) (at : Place) (t u : Ty)

@@ -2,6 +2,7 @@ pub mod Accepted
 pub mod Arithmetic
 pub mod Breach
 pub mod Breaches
+pub mod Collect
 pub mod Completed
 pub mod Constant
 pub mod Declarators
@@ -9,6 +10,7 @@ pub mod Erase
 pub mod Expr
 pub mod First
 pub mod Fun
+pub mod Groups
 pub mod HasType
 pub mod Init
 pub mod Item

@@ -5,26 +5,18 @@ use Rattle.c_tree.specs.Stmt.{Stmt, Stmts}
 use Rattle.c_tree.specs.Stmt as stmt
 use Rattle.c_tree.specs.Item.{Item}
 use Rattle.c_tree.specs.Item as item
+use Rattle.c_tree.specs.Collect.{collect, collect_all}
 
-abbrev mutual
-  pub markers : Stmt → List Marker
-  markers (stmt.Empty at) = []
-  markers (stmt.Expr e at) = []
-  markers (stmt.Vars ds at) = []
-  markers (stmt.Block body at) = all_markers body
-  markers (stmt.Marker m at) = m ∷ []
-  markers (stmt.If c s at) = markers s
-  markers (stmt.IfElse c s other at) = markers s ++ markers other
-  markers (stmt.While c s at) = markers s
-  markers (stmt.Do s c at) = markers s
-  markers (stmt.For f c d s at) = markers s
-  markers (stmt.Return value at) = []
-  markers (stmt.Break at) = []
-  markers (stmt.Continue at) = []
+-- the marker that a statement is by itself
+abbrev pub own_markers : Stmt → List Marker
+own_markers (stmt.Marker m at) = m ∷ []
+own_markers s = []
 
-  pub all_markers : Stmts → List Marker
-  all_markers stmt.NoMore = []
-  all_markers (stmt.More s rest) = markers s ++ all_markers rest
+abbrev pub markers : Stmt → List Marker
+markers = collect own_markers
+
+abbrev pub all_markers : Stmts → List Marker
+all_markers = collect_all own_markers
 
 abbrev pub body_markers : Option Stmts → List Marker
 body_markers None = []

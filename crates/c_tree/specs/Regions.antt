@@ -6,7 +6,7 @@ use Rattle.c_tree.specs.declared.edge.Edge.{Edge}
 use Rattle.c_tree.specs.declared.place.Place.{Place}
 use Rattle.c_tree.specs.declared.tree.Marker.{Marker}
 use Rattle.c_tree.specs.declared.tree.Marker.TheVariants as marker
-use Rattle.c_tree.specs.Stmt.{Stmt, Stmts}
+use Rattle.c_tree.specs.Stmt.{Stmt, Stmts, ElseBranch}
 use Rattle.c_tree.specs.Stmt as stmt
 use Rattle.c_tree.specs.Item.{Item}
 use Rattle.c_tree.specs.Item as item
@@ -28,14 +28,17 @@ abbrev mutual
   edges block (stmt.Vars ds at) = []
   edges block (stmt.Block body at) = body_edges (Some at) body
   edges block (stmt.Marker m at) = edge block m at
-  edges block (stmt.If c s at) = edges None s
-  edges block (stmt.IfElse c s other at) = edges None s ++ edges None other
+  edges block (stmt.If c s other at) = edges None s ++ else_edges other
   edges block (stmt.While c s at) = edges None s
   edges block (stmt.Do s c at) = edges None s
   edges block (stmt.For f c d s at) = edges None s
   edges block (stmt.Return value at) = []
   edges block (stmt.Break at) = []
   edges block (stmt.Continue at) = []
+
+  pub else_edges : ElseBranch → List Edge
+  else_edges stmt.NoElse = []
+  else_edges (stmt.Else s) = edges None s
 
   pub body_edges : Option Place → Stmts → List Edge
   body_edges block stmt.NoMore = []

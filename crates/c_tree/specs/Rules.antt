@@ -1,9 +1,11 @@
 -- The typing rules: the type of a node from the types of its parts, or nothing.
 use Rattle.std.specs.Prelude.{◌==◌, Bool, true, false, ◌&&◌, ◌||◌, Option, Some, None, if◌then◌else◌}
 use Rattle.c_tree.specs.declared.operator.Binary.{Binary}
-use Rattle.c_tree.specs.declared.operator.Binary.TheVariants as binary
+use Rattle.c_tree.specs.declared.operator.Group.{Group}
+use Rattle.c_tree.specs.declared.operator.Group.TheVariants as by
 use Rattle.c_tree.specs.declared.operator.Unary.{Unary}
 use Rattle.c_tree.specs.declared.operator.Unary.TheVariants as unary
+use Rattle.c_tree.specs.Groups.{group, is_sum}
 use Rattle.c_tree.specs.Ty.{Ty}
 use Rattle.c_tree.specs.Ty as ty
 use Rattle.c_tree.specs.Expr.{Expr}
@@ -72,25 +74,18 @@ equality_rule n m t u =
 abbrev pub logic_rule : Ty → Ty → Option Ty
 logic_rule t u = where_right (is_scalar t && is_scalar u) (Some ty.Int)
 
-abbrev pub value_rule : Binary → Bool → Bool → Ty → Ty → Option Ty
-value_rule binary.Or n m = logic_rule
-value_rule binary.And n m = logic_rule
-value_rule binary.BitOr n m = arithmetic_rule
-value_rule binary.BitXor n m = arithmetic_rule
-value_rule binary.BitAnd n m = arithmetic_rule
-value_rule binary.Equal n m = equality_rule n m
-value_rule binary.Unequal n m = equality_rule n m
-value_rule binary.Less n m = order_rule
-value_rule binary.Greater n m = order_rule
-value_rule binary.LessEqual n m = order_rule
-value_rule binary.GreaterEqual n m = order_rule
-value_rule binary.Left n m = shift_rule
-value_rule binary.Right n m = shift_rule
-value_rule binary.Plus n m = sum_rule
-value_rule binary.Minus n m = difference_rule
-value_rule binary.Times n m = arithmetic_rule
-value_rule binary.Divide n m = arithmetic_rule
-value_rule binary.Rest n m = arithmetic_rule
+abbrev pub group_rule : Group → Bool → Bool → Ty → Ty → Option Ty
+group_rule by.Or n m = logic_rule
+group_rule by.And n m = logic_rule
+group_rule by.BitOr n m = arithmetic_rule
+group_rule by.BitXor n m = arithmetic_rule
+group_rule by.BitAnd n m = arithmetic_rule
+group_rule by.Equality n m = equality_rule n m
+group_rule by.Order n m = order_rule
+group_rule by.Shift n m = shift_rule
+group_rule by.Sum n m = sum_rule
+group_rule by.Difference n m = difference_rule
+group_rule by.Product n m = arithmetic_rule
 
 -- the last two operands of `?:` (6.5.15)
 abbrev pub conditional_value_rule : Bool → Bool → Ty → Ty → Option Ty
@@ -111,14 +106,9 @@ pointed_some (Some t) = pointed t
 abbrev pub takes : Ty → Bool → Ty → Bool
 takes to nought t = (is_integer to && is_integer t) || is_pointer_with to nought t
 
-abbrev pub is_sum : Binary → Bool
-is_sum binary.Plus = true
-is_sum binary.Minus = true
-is_sum _ = false
-
 -- a compound assignment (6.5.16.2): with a pointer, `+=` and `-=` alone
 abbrev pub combines : Binary → Ty → Ty → Bool
-combines op to t = (is_integer to || (is_pointer to && is_sum op)) && is_integer t
+combines op to t = (is_integer to || (is_pointer to && is_sum (group op))) && is_integer t
 
 abbrev pub fits : Option Binary → Ty → Bool → Ty → Bool
 fits None to nought t = takes to nought t
@@ -127,7 +117,7 @@ fits (Some op) to nought t = combines op to t
 -- Rules on the types of two parts as they stand.
 
 abbrev pub binary_rule : Binary → Bool → Bool → Ty → Ty → Option Ty
-binary_rule op n m t u = value_rule op n m (decayed t) (decayed u)
+binary_rule op n m t u = group_rule (group op) n m (decayed t) (decayed u)
 
 abbrev pub conditional_rule : Bool → Bool → Ty → Ty → Option Ty
 conditional_rule n m t u = conditional_value_rule n m (decayed t) (decayed u)

@@ -12,7 +12,7 @@ use Rattle.c_tree.specs.Ty as ty
 use Rattle.c_tree.specs.Expr.{Expr}
 use Rattle.c_tree.specs.First.{First}
 use Rattle.c_tree.specs.First as for_first
-use Rattle.c_tree.specs.Stmt.{Stmt, Stmts}
+use Rattle.c_tree.specs.Stmt.{Stmt, Stmts, ElseBranch}
 use Rattle.c_tree.specs.Stmt as stmt
 use Rattle.c_tree.specs.Scope.{Known, ObjectOf, FunctionOf, Scope, look, entered}
 use Rattle.c_tree.specs.Breach.{breach, unless}
@@ -94,12 +94,9 @@ module _ (result : Ty) where
     statement_breaches loop (stmt.Vars ds at) scope = declarators_breaches false scope ds
     statement_breaches loop (stmt.Block body at) scope = body_breaches loop body (entered scope)
     statement_breaches loop (stmt.Marker m at) scope = marker_breaches scope m at
-    statement_breaches loop (stmt.If c s at) scope =
-        test_breaches scope c at ++ statement_breaches loop s (entered scope)
-    statement_breaches loop (stmt.IfElse c s other at) scope =
+    statement_breaches loop (stmt.If c s other at) scope =
         test_breaches scope c at
-        ++ (statement_breaches loop s (entered scope)
-        ++ statement_breaches loop other (entered scope))
+        ++ (statement_breaches loop s (entered scope) ++ else_breaches loop other scope)
     statement_breaches loop (stmt.While c s at) scope =
         test_breaches scope c at ++ statement_breaches true s (entered scope)
     statement_breaches loop (stmt.Do s c at) scope =
@@ -112,6 +109,10 @@ module _ (result : Ty) where
     statement_breaches loop (stmt.Return value at) scope = return_breaches scope result value at
     statement_breaches loop (stmt.Break at) scope = unless loop Mismatch at
     statement_breaches loop (stmt.Continue at) scope = unless loop Mismatch at
+
+    pub else_breaches : Bool → ElseBranch → Scope → List Breach
+    else_breaches loop stmt.NoElse scope = []
+    else_breaches loop (stmt.Else s) scope = statement_breaches loop s (entered scope)
 
     pub body_breaches : Bool → Stmts → Scope → List Breach
     body_breaches loop stmt.NoMore scope = []

@@ -14,8 +14,7 @@ mutual
     Vars : (declarators : List Var) (at : Place) → Stmt
     Block : (body : Stmts) (at : Place) → Stmt
     Marker : (marker : MarkerTree) (at : Place) → Stmt
-    If : (test : expr.Expr) (then : Stmt) (at : Place) → Stmt
-    IfElse : (test : expr.Expr) (then : Stmt) (else : Stmt) (at : Place) → Stmt
+    If : (test : expr.Expr) (then : Stmt) (else : ElseBranch) (at : Place) → Stmt
     While : (test : expr.Expr) (body : Stmt) (at : Place) → Stmt
     Do : (body : Stmt) (test : expr.Expr) (at : Place) → Stmt
     For : (first : First) (test : Option expr.Expr) (step : Option expr.Expr) (body : Stmt)
@@ -23,6 +22,11 @@ mutual
     Return : (value : Option expr.Expr) (at : Place) → Stmt
     Break : (at : Place) → Stmt
     Continue : (at : Place) → Stmt
+
+  -- the branch of an `if` that may be left out
+  pub data ElseBranch : Type 0 where
+    NoElse : ElseBranch
+    Else : (other : Stmt) → ElseBranch
 
   pub data Stmts : Type 0 where
     NoMore : Stmts

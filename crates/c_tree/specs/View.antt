@@ -33,7 +33,7 @@ use Rattle.c_tree.specs.Init as initial
 use Rattle.c_tree.specs.Var.{Var}
 use Rattle.c_tree.specs.First.{First}
 use Rattle.c_tree.specs.First as for_first
-use Rattle.c_tree.specs.Stmt.{Stmt, Stmts}
+use Rattle.c_tree.specs.Stmt.{Stmt, Stmts, ElseBranch}
 use Rattle.c_tree.specs.Stmt as stmt
 use Rattle.c_tree.specs.Fun.{Param, Fun}
 use Rattle.c_tree.specs.Item.{Item}
@@ -101,10 +101,10 @@ abbrev pub stmts_list : List Stmt → Stmts
 stmts_list [] = stmt.NoMore
 stmts_list (s ∷ ss) = stmt.More s (stmts_list ss)
 
--- an `if`, with an `else` where there is one
-abbrev pub if_of : Expr → Stmt → Option Stmt → Place → Stmt
-if_of c s None at = stmt.If c s at
-if_of c s (Some other) at = stmt.IfElse c s other at
+-- the branch of an `if` that may be left out, where `part` says what a statement is
+abbrev pub else_of : {A : Type 0} → (A → Stmt) → Option A → ElseBranch
+else_of part None = stmt.NoElse
+else_of part (Some other) = stmt.Else (part other)
 
 -- one level of a statement, with the pure tree of each part in its place
 abbrev pub stmt_step : StmtKind-F (Place → Stmt) Stmt → Place → Stmt
@@ -113,7 +113,7 @@ stmt_step (kind.Expr e) at = stmt.Expr (expr_of e) at
 stmt_step (kind.Vars vs) at = stmt.Vars (map var_of vs.items) at
 stmt_step (kind.Block body) at = stmt.Block (stmts_list body.items) at
 stmt_step (kind.Marker m) at = stmt.Marker m at
-stmt_step (kind.If c s other) at = if_of (expr_of c) s.value (option_map (λ o. o.value) other) at
+stmt_step (kind.If c s other) at = stmt.If (expr_of c) s.value (else_of (λ o. o.value) other) at
 stmt_step (kind.While c s) at = stmt.While (expr_of c) s.value at
 stmt_step (kind.Do s c) at = stmt.Do s.value (expr_of c) at
 stmt_step (kind.For f c d s) at =

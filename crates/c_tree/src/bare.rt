@@ -2,8 +2,8 @@
 
 ghost use Rattle.std.specs.Prelude.{◌≡◌, map, option_map, IfOk};
 ghost use Rattle.c_tree.specs.Stmt as the_stmt;
-ghost use Rattle.c_tree.specs.View.{expr_of, first_of, boxed_stmt_of, stmt_of, stmts_of, item_of, items_of};
-ghost use Rattle.c_tree.specs.Erase.{erased, erased_all, erased_part, erased_text};
+ghost use Rattle.c_tree.specs.View.{expr_of, first_of, boxed_stmt_of, else_of, stmt_of, stmts_of, item_of, items_of};
+ghost use Rattle.c_tree.specs.Erase.{erased, erased_else, erased_all, erased_part, erased_text};
 
 use crate::OutOfMemory;
 use crate::copy::{expr, first, optional, params, vars};
@@ -20,8 +20,8 @@ fn boxed(alloc: Global, s: &Stmt) -> Result<Box<Stmt>, OutOfMemory>
 
 #[cycle(stmt)]
 fn other(alloc: Global, s: &Option<Box<Stmt>>) -> Result<Option<Box<Stmt>>, OutOfMemory>
-    ensures { IfOk result (λ bare. option_map boxed_stmt_of bare
-        ≡ option_map erased (option_map boxed_stmt_of s.now)) }
+    ensures { IfOk result (λ bare. else_of boxed_stmt_of bare
+        ≡ erased_else (else_of boxed_stmt_of s.now)) }
 {
     match s {
         None => Ok(None),

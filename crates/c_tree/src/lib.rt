@@ -26,7 +26,7 @@ pub use laws::{
     unmarked_text_stays,
 };
 pub use name::Name;
-pub use operator::{Binary, Keep, Step, Unary};
+pub use operator::{Binary, Group, Keep, Step, Unary};
 pub use place::Place;
 pub use tree::{
     Callee, Count, Expr, ExprKind, First, Fun, Init, Item, Marker, Param, Stmt, StmtKind, Tree, Var,

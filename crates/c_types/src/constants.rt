@@ -56,7 +56,7 @@ fn evaluate_unary(
 {
     let value = match first.value {
         None => None,
-        Some(x) => unary_word(op, first.ty.is_unsigned(), x),
+        Some(x) => unary_word(op, first.ty.is_unsigned(), x).ok(),
     };
     note_act(live, first.value.is_some(), value, at, least);
     let ty = match op {

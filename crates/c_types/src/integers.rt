@@ -3,7 +3,7 @@
 ghost use Rattle.std.specs.Prelude.{◌≡◌, Option};
 ghost use Rattle.c_tree.specs.View.{ty_of};
 ghost use Rattle.c_tree.specs.Shapes.{promoted, common, is_unsigned};
-ghost use Rattle.c_tree.specs.Constant.{is_shift, gives_truth, binary_shape, integer_shape, is_unsigned_act, decides, is_logic, needs_second, binary_value, is_ready};
+ghost use Rattle.c_tree.specs.Constant.{binary_shape, integer_shape, is_unsigned_act, needs_second, binary_value, is_ready};
 ghost use Rattle.c_types.specs.ConstantAnswers.{integer};
 
 use crate::words::binary_word;
@@ -70,34 +70,12 @@ impl Integer {
     }
 }
 
-fn is_shift(op: Binary) -> bool
-    ensures { result ≡ is_shift op }
-{
-    matches!(op, Binary::Left | Binary::Right)
-}
-
-fn gives_truth(op: Binary) -> bool
-    ensures { result ≡ gives_truth op }
-{
-    match op {
-        Binary::Or => true,
-        Binary::And => true,
-        Binary::Equal => true,
-        Binary::Unequal => true,
-        Binary::Less => true,
-        Binary::Greater => true,
-        Binary::LessEqual => true,
-        Binary::GreaterEqual => true,
-        _ => false,
-    }
-}
-
 pub(crate) fn binary_type(op: Binary, left: Integer, right: Integer) -> Integer
     ensures { integer result ≡ binary_shape op (integer left) (integer right) }
 {
-    if gives_truth(op) {
+    if op.group().gives_truth() {
         Integer::Int
-    } else if is_shift(op) {
+    } else if op.group().is_shift() {
         left.promote()
     } else {
         left.common(right)
@@ -107,32 +85,15 @@ pub(crate) fn binary_type(op: Binary, left: Integer, right: Integer) -> Integer
 pub(crate) fn is_unsigned_act(op: Binary, left: Integer, right: Integer) -> bool
     ensures { result ≡ is_unsigned_act op (integer left) (integer right) }
 {
-    left.is_unsigned() || !is_shift(op) && right.is_unsigned()
-}
-
-/// Whether the first operand of `&&` or `||` decides.
-fn decides(op: Binary, x: u32) -> bool
-    ensures { result ≡ decides op x }
-{
-    match op {
-        Binary::And => x == 0,
-        Binary::Or => x != 0,
-        _ => false,
-    }
-}
-
-fn is_logic(op: Binary) -> bool
-    ensures { result ≡ is_logic op }
-{
-    matches!(op, Binary::And | Binary::Or)
+    left.is_unsigned() || !op.group().is_shift() && right.is_unsigned()
 }
 
 pub(crate) fn needs_second(op: Binary, x: Option<u32>) -> bool
     ensures { result ≡ needs_second op x }
 {
     match x {
-        None => !is_logic(op),
-        Some(x) => !decides(op, x),
+        None => !op.group().is_logic(),
+        Some(x) => !op.group().decides(x),
     }
 }
 
@@ -145,12 +106,12 @@ pub(crate) fn binary_value(
     ensures { result ≡ binary_value op unsigned x y }
 {
     let x = x?;
-    if decides(op, x) {
+    if op.group().decides(x) {
         return Some(if x != 0 { 1 } else { 0 });
     }
     match y {
         None => None,
-        Some(y) => binary_word(op, unsigned, x, y),
+        Some(y) => binary_word(op, unsigned, x, y).ok(),
     }
 }
 

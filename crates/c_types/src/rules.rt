@@ -1,16 +1,17 @@
 //! The typing rules: the type of a node from the types of its parts, or nothing.
 
 ghost use Rattle.std.specs.Prelude.{◌≡◌, ◌&&◌, ◌||◌, is_some, true, Some};
+ghost use Rattle.c_tree.specs.Groups.{group};
 ghost use Rattle.c_tree.specs.Ty as the_ty;
 ghost use Rattle.c_tree.specs.View.{ty_of};
 ghost use Rattle.c_tree.specs.Shapes.{is_integer, is_pointer, promoted};
-ghost use Rattle.c_tree.specs.Rules.{arithmetic_rule, shift_rule, sum_rule, difference_rule, order_rule, is_pointer_with, equality_rule, logic_rule, value_rule, conditional_value_rule, takes, combines, fits, index_rule, assign_rule, unary_value_rule, unary_rule, step_rule, cast_rule, is_at, where_right};
+ghost use Rattle.c_tree.specs.Rules.{arithmetic_rule, shift_rule, sum_rule, difference_rule, order_rule, is_pointer_with, equality_rule, logic_rule, group_rule, conditional_value_rule, takes, combines, fits, index_rule, assign_rule, unary_value_rule, unary_rule, step_rule, cast_rule, is_at, where_right};
 ghost use Rattle.c_tree.specs.Typing.{one, both, is_taken};
 ghost use Rattle.c_tree.specs.Breaches.{possible_one, possible_right, possible_left, possible_both, may_take};
 ghost use Rattle.c_types.specs.Seen.{seen, seen_some, is_flat, rule_of, part_rule, is_contents};
 
 use crate::seen::{Base, Seen};
-use c_tree::{Binary, CType, Unary};
+use c_tree::{Binary, CType, Group, Unary};
 
 /// `* / % & ^ |` (C11 6.5.5, 6.5.10 to 6.5.12).
 fn arithmetic<'a>(a: Seen<'a>, b: Seen<'a>) -> Option<Seen<'a>>
@@ -116,27 +117,16 @@ fn binary_result<'a>(
     b: Seen<'a>,
 ) -> Option<Seen<'a>>
     ensures { seen_some result
-        ≡ value_rule op left_nought right_nought (seen a.entry) (seen b.entry) }
+        ≡ group_rule (group op) left_nought right_nought (seen a.entry) (seen b.entry) }
 {
-    match op {
-        Binary::Or => logic(a, b),
-        Binary::And => logic(a, b),
-        Binary::BitOr => arithmetic(a, b),
-        Binary::BitXor => arithmetic(a, b),
-        Binary::BitAnd => arithmetic(a, b),
-        Binary::Equal => equality(left_nought, right_nought, a, b),
-        Binary::Unequal => equality(left_nought, right_nought, a, b),
-        Binary::Less => order(a, b),
-        Binary::Greater => order(a, b),
-        Binary::LessEqual => order(a, b),
-        Binary::GreaterEqual => order(a, b),
-        Binary::Left => shift(a, b),
-        Binary::Right => shift(a, b),
-        Binary::Plus => sum(a, b),
-        Binary::Minus => difference(a, b),
-        Binary::Times => arithmetic(a, b),
-        Binary::Divide => arithmetic(a, b),
-        Binary::Rest => arithmetic(a, b),
+    match op.group() {
+        Group::Or | Group::And => logic(a, b),
+        Group::BitOr | Group::BitXor | Group::BitAnd | Group::Product => arithmetic(a, b),
+        Group::Equality => equality(left_nought, right_nought, a, b),
+        Group::Order => order(a, b),
+        Group::Shift => shift(a, b),
+        Group::Sum => sum(a, b),
+        Group::Difference => difference(a, b),
     }
 }
 
@@ -183,8 +173,7 @@ fn takes(to: Seen, nought: bool, a: Seen) -> bool
 fn combines(op: Binary, to: Seen, a: Seen) -> bool
     ensures { result ≡ combines op (seen to.entry) (seen a.entry) }
 {
-    let sum = matches!(op, Binary::Plus | Binary::Minus);
-    (to.is_integer() || to.is_pointer() && sum) && a.is_integer()
+    (to.is_integer() || to.is_pointer() && op.group().is_sum()) && a.is_integer()
 }
 
 fn fits(how: Option<Binary>, to: Seen, nought: bool, a: Seen) -> bool

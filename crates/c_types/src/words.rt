@@ -1,92 +1,105 @@
-//! Arithmetic on values of 32 bits: a value, or nothing where the act is undefined.
+//! Arithmetic on values of 32 bits: a value, or the undefined act that it is.
 
 ghost use Rattle.std.specs.Prelude.{◌≡◌};
 ghost use Rattle.c_tree.specs.View.{ty_of};
-ghost use Rattle.c_tree.specs.Arithmetic.{sum, difference, product, quotient, remainder, left_shift, right_shift, is_less, truth, negative, binary_word, unary_word, converted, given};
+ghost use Rattle.c_tree.specs.Arithmetic.{sum, difference, product, quotient, remainder, left_shift, right_shift, is_less, truth, negative, binary_word, unary_word, converted};
 
-use c_tree::{Binary, CType, Unary};
+use c_tree::{Binary, CType, Unary, Undefined};
 
-fn sum(unsigned: bool, x: u32, y: u32) -> Option<u32>
-    ensures { result ≡ given (sum unsigned x y) }
+fn sum(unsigned: bool, x: u32, y: u32) -> Result<u32, Undefined>
+    ensures { result ≡ sum unsigned x y }
 {
     if unsigned {
-        Some(x.wrapping_add(y))
+        Ok(x.wrapping_add(y))
     } else {
-        let sum = x.cast_signed().checked_add(y.cast_signed())?;
-        Some(sum.cast_unsigned())
+        let sum = x
+            .cast_signed()
+            .checked_add(y.cast_signed())
+            .ok_or(Undefined::Overflow)?;
+        Ok(sum.cast_unsigned())
     }
 }
 
-fn difference(unsigned: bool, x: u32, y: u32) -> Option<u32>
-    ensures { result ≡ given (difference unsigned x y) }
+fn difference(unsigned: bool, x: u32, y: u32) -> Result<u32, Undefined>
+    ensures { result ≡ difference unsigned x y }
 {
     if unsigned {
-        Some(x.wrapping_sub(y))
+        Ok(x.wrapping_sub(y))
     } else {
-        let difference = x.cast_signed().checked_sub(y.cast_signed())?;
-        Some(difference.cast_unsigned())
+        let difference = x
+            .cast_signed()
+            .checked_sub(y.cast_signed())
+            .ok_or(Undefined::Overflow)?;
+        Ok(difference.cast_unsigned())
     }
 }
 
-fn product(unsigned: bool, x: u32, y: u32) -> Option<u32>
-    ensures { result ≡ given (product unsigned x y) }
+fn product(unsigned: bool, x: u32, y: u32) -> Result<u32, Undefined>
+    ensures { result ≡ product unsigned x y }
 {
     if unsigned {
-        Some(x.wrapping_mul(y))
+        Ok(x.wrapping_mul(y))
     } else {
-        let product = x.cast_signed().checked_mul(y.cast_signed())?;
-        Some(product.cast_unsigned())
+        let product = x
+            .cast_signed()
+            .checked_mul(y.cast_signed())
+            .ok_or(Undefined::Overflow)?;
+        Ok(product.cast_unsigned())
     }
 }
 
-fn quotient(unsigned: bool, x: u32, y: u32) -> Option<u32>
-    ensures { result ≡ given (quotient unsigned x y) }
+fn quotient(unsigned: bool, x: u32, y: u32) -> Result<u32, Undefined>
+    ensures { result ≡ quotient unsigned x y }
 {
-    if unsigned {
-        x.checked_div(y)
-    } else {
-        let quotient = x.cast_signed().checked_div(y.cast_signed())?;
-        Some(quotient.cast_unsigned())
+    if y == 0 {
+        return Err(Undefined::Divide);
     }
+    if unsigned {
+        return Ok(x / y);
+    }
+    let quotient = x.cast_signed().checked_div(y.cast_signed());
+    Ok(quotient.ok_or(Undefined::Overflow)?.cast_unsigned())
 }
 
-fn remainder(unsigned: bool, x: u32, y: u32) -> Option<u32>
-    ensures { result ≡ given (remainder unsigned x y) }
+fn remainder(unsigned: bool, x: u32, y: u32) -> Result<u32, Undefined>
+    ensures { result ≡ remainder unsigned x y }
 {
-    if unsigned {
-        x.checked_rem(y)
-    } else {
-        let remainder = x.cast_signed().checked_rem(y.cast_signed())?;
-        Some(remainder.cast_unsigned())
+    if y == 0 {
+        return Err(Undefined::Divide);
     }
+    if unsigned {
+        return Ok(x % y);
+    }
+    let remainder = x.cast_signed().checked_rem(y.cast_signed());
+    Ok(remainder.ok_or(Undefined::Overflow)?.cast_unsigned())
 }
 
-fn left_shift(unsigned: bool, x: u32, amount: u32) -> Option<u32>
-    ensures { result ≡ given (left_shift unsigned x amount) }
+fn left_shift(unsigned: bool, x: u32, amount: u32) -> Result<u32, Undefined>
+    ensures { result ≡ left_shift unsigned x amount }
 {
     if amount >= 32 {
-        return None;
+        return Err(Undefined::Shift);
     }
     if unsigned {
-        return Some(x << amount);
+        return Ok(x << amount);
     }
     let shifted = (x as u64) << amount;
     if shifted < 0x8000_0000 {
-        Some(shifted as u32)
+        Ok(shifted as u32)
     } else {
-        None
+        Err(Undefined::Shift)
     }
 }
 
-fn right_shift(unsigned: bool, x: u32, amount: u32) -> Option<u32>
-    ensures { result ≡ given (right_shift unsigned x amount) }
+fn right_shift(unsigned: bool, x: u32, amount: u32) -> Result<u32, Undefined>
+    ensures { result ≡ right_shift unsigned x amount }
 {
     if amount >= 32 {
-        None
+        Err(Undefined::Shift)
     } else if unsigned {
-        Some(x >> amount)
+        Ok(x >> amount)
     } else {
-        Some((x.cast_signed() >> amount).cast_unsigned())
+        Ok((x.cast_signed() >> amount).cast_unsigned())
     }
 }
 
@@ -107,21 +120,21 @@ fn truth(test: bool) -> u32
 }
 
 /// What an operator between two integers gives, both converted; the flag says that they are unsigned, for a shift the left one.
-pub fn binary_word(op: Binary, unsigned: bool, x: u32, y: u32) -> Option<u32>
-    ensures { result ≡ given (binary_word op unsigned x y) }
+pub fn binary_word(op: Binary, unsigned: bool, x: u32, y: u32) -> Result<u32, Undefined>
+    ensures { result ≡ binary_word op unsigned x y }
 {
     match op {
-        Binary::Or => Some(truth(x != 0 || y != 0)),
-        Binary::And => Some(truth(x != 0 && y != 0)),
-        Binary::BitOr => Some(x | y),
-        Binary::BitXor => Some(x ^ y),
-        Binary::BitAnd => Some(x & y),
-        Binary::Equal => Some(truth(x == y)),
-        Binary::Unequal => Some(truth(x != y)),
-        Binary::Less => Some(truth(is_less(unsigned, x, y))),
-        Binary::Greater => Some(truth(is_less(unsigned, y, x))),
-        Binary::LessEqual => Some(truth(!is_less(unsigned, y, x))),
-        Binary::GreaterEqual => Some(truth(!is_less(unsigned, x, y))),
+        Binary::Or => Ok(truth(x != 0 || y != 0)),
+        Binary::And => Ok(truth(x != 0 && y != 0)),
+        Binary::BitOr => Ok(x | y),
+        Binary::BitXor => Ok(x ^ y),
+        Binary::BitAnd => Ok(x & y),
+        Binary::Equal => Ok(truth(x == y)),
+        Binary::Unequal => Ok(truth(x != y)),
+        Binary::Less => Ok(truth(is_less(unsigned, x, y))),
+        Binary::Greater => Ok(truth(is_less(unsigned, y, x))),
+        Binary::LessEqual => Ok(truth(!is_less(unsigned, y, x))),
+        Binary::GreaterEqual => Ok(truth(!is_less(unsigned, x, y))),
         Binary::Left => left_shift(unsigned, x, y),
         Binary::Right => right_shift(unsigned, x, y),
         Binary::Plus => sum(unsigned, x, y),
@@ -132,28 +145,28 @@ pub fn binary_word(op: Binary, unsigned: bool, x: u32, y: u32) -> Option<u32>
     }
 }
 
-fn negative(unsigned: bool, x: u32) -> Option<u32>
-    ensures { result ≡ given (negative unsigned x) }
+fn negative(unsigned: bool, x: u32) -> Result<u32, Undefined>
+    ensures { result ≡ negative unsigned x }
 {
     if unsigned {
-        Some(x.wrapping_neg())
+        Ok(x.wrapping_neg())
     } else {
-        let negative = x.cast_signed().checked_neg()?;
-        Some(negative.cast_unsigned())
+        let negative = x.cast_signed().checked_neg().ok_or(Undefined::Overflow)?;
+        Ok(negative.cast_unsigned())
     }
 }
 
 /// What an arithmetic operator before an integer gives; `*` and `&` leave the value.
-pub fn unary_word(op: Unary, unsigned: bool, x: u32) -> Option<u32>
-    ensures { result ≡ given (unary_word op unsigned x) }
+pub fn unary_word(op: Unary, unsigned: bool, x: u32) -> Result<u32, Undefined>
+    ensures { result ≡ unary_word op unsigned x }
 {
     match op {
-        Unary::Plus => Some(x),
+        Unary::Plus => Ok(x),
         Unary::Minus => negative(unsigned, x),
-        Unary::Not => Some(truth(x == 0)),
-        Unary::Flip => Some(!x),
-        Unary::At => Some(x),
-        Unary::Address => Some(x),
+        Unary::Not => Ok(truth(x == 0)),
+        Unary::Flip => Ok(!x),
+        Unary::At => Ok(x),
+        Unary::Address => Ok(x),
     }
 }
 

@@ -1,4 +1,5 @@
-// The code of a text of the form.
+//! The code of a text of the form.
+
 ghost use Rattle.std.specs.Prelude.{◌≡◌, ◌++◌, ◌∷◌, [], ◌<◌, ◌≤ℤ◌, ◌^◌, List, ℕ, ℤ, pos, IfOk, IfErr, OnOk, IsErrOf, length, ◌≤◌};
 ghost use Rattle.bop_bits.specs.declared.map.TheConstants.{CODE_WORDS};
 ghost use Rattle.rv_code.specs.Table.{IsInstr, word_of};
@@ -29,7 +30,7 @@ pub fn compile(alloc: Global, text: &[u8]) -> Result<Program, Refused>
     })
 }
 
-// Code that puts characters and exits.
+/// Code that puts characters and exits.
 #[tactic(auto, using(crate::proofs::FormCodes::puts_code_more))]
 fn code(alloc: Global, characters: &[u8], exit: i32) -> Result<Vec<u32>, AllocError>
     requires { pos 0 ≤ℤ exit }
@@ -43,7 +44,7 @@ fn code(alloc: Global, characters: &[u8], exit: i32) -> Result<Vec<u32>, AllocEr
     Ok(code)
 }
 
-// Adds the code that puts a character.
+/// Adds the code that puts a character.
 fn put(code: &mut Vec<u32>, character: u8) -> Result<(), AllocError>
     ensures { OnOk result (code.new.items ≡ code.old.items ++ put_code character) }
 {
@@ -52,7 +53,7 @@ fn put(code: &mut Vec<u32>, character: u8) -> Result<(), AllocError>
     add(code, Instr::Ecall)
 }
 
-// Adds the code that exits with a value.
+/// Adds the code that exits with a value.
 fn finish(code: &mut Vec<u32>, exit: i32) -> Result<(), AllocError>
     requires { pos 0 ≤ℤ exit }
     ensures { OnOk result (code.new.items ≡ code.old.items ++ return_code exit) }
@@ -69,7 +70,7 @@ fn finish(code: &mut Vec<u32>, exit: i32) -> Result<(), AllocError>
     add(code, Instr::Ecall)
 }
 
-// Adds an ADDI.
+/// Adds an ADDI.
 fn add_immediate(code: &mut Vec<u32>, rd: u8, rs1: u8, imm: i32) -> Result<(), AllocError>
     requires { IsInstr (Instr.Addi rd rs1 imm) }
     ensures { OnOk result (code.new.items
@@ -78,7 +79,7 @@ fn add_immediate(code: &mut Vec<u32>, rd: u8, rs1: u8, imm: i32) -> Result<(), A
     add(code, Instr::Addi { rd, rs1, imm })
 }
 
-// Adds an instruction.
+/// Adds an instruction.
 fn add(code: &mut Vec<u32>, instr: Instr) -> Result<(), AllocError>
     requires { IsInstr instr }
     ensures { OnOk result (code.new.items ≡ code.old.items ++ word_of instr ∷ []) }
@@ -87,7 +88,7 @@ fn add(code: &mut Vec<u32>, instr: Instr) -> Result<(), AllocError>
     Ok(())
 }
 
-// The upper 20 bits from which `lower` leads to the value.
+/// The upper 20 bits from which `lower` leads to the value.
 fn upper(value: i32) -> u32
     requires { pos 0 ≤ℤ value }
     ensures value { result ≡ upper_of value }
@@ -96,7 +97,7 @@ fn upper(value: i32) -> u32
     (value.cast_unsigned() + 2048) / 4096
 }
 
-// The lower 12 bits, in two's complement.
+/// The lower 12 bits, in two's complement.
 fn lower(value: i32) -> i32
     requires { pos 0 ≤ℤ value }
     ensures value { result ≡ lower_of value }

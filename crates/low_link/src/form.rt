@@ -1,4 +1,5 @@
-// Reading a text of the form.
+//! Reading a text of the form.
+
 ghost use Rattle.std.specs.Prelude.{◌≡◌, ◌≤◌, ◌++◌, ◌<◌, List, ℕ, ℤ, IfOk, IfErr, IsErrOf, IsTrue, ◌↔◌, MatchOption, length};
 ghost use Rattle.std.specs.Char.{IsAsciiDigit};
 ghost use Rattle.std.specs.List.{All, AllByRecursion};
@@ -43,14 +44,14 @@ pub fn read_form(alloc: Global, text: &[u8]) -> Result<Form, Refused>
     }
 }
 
-// Statements `putchar('C');`: their characters, and what stands behind them.
+/// Statements `putchar('C');`: their characters, and what stands behind them.
 #[derive(Drop)]
 struct Puts<'a> {
     characters: Vec<u8>,
     rest: &'a [u8],
 }
 
-// Reads as many statements `putchar('C');` as stand at the front of a text.
+/// Reads as many statements `putchar('C');` as stand at the front of a text.
 fn read_puts(alloc: Global, text: &[u8]) -> Result<Puts<'_>, AllocError>
     ensures read { IfOk result (λ puts. text.now ≡ puts_text puts.characters.items puts.rest.now) }
     ensures plain { IfOk result (λ puts. AllByRecursion IsPlain puts.characters.items) }
@@ -65,7 +66,7 @@ fn read_puts(alloc: Global, text: &[u8]) -> Result<Puts<'_>, AllocError>
     Ok(Puts { characters, rest })
 }
 
-// Reads one statement `putchar('C');`.
+/// Reads one statement `putchar('C');`.
 fn read_put(text: &[u8]) -> Option<(u8, &[u8])>
     ensures { MatchOption result (BeginsNoPut text.now)
         (λ put. IsPlain put.0 × (text.now ≡ put_text put.0 put.1.now)) }
@@ -80,7 +81,7 @@ fn read_put(text: &[u8]) -> Option<(u8, &[u8])>
     Some((*character, rest))
 }
 
-// Reads `return N;}` to the end of the text.
+/// Reads `return N;}` to the end of the text.
 fn read_return(text: &[u8]) -> Option<i32>
     ensures { MatchOption result ((exit : ℤ) → IsReturn text.now exit → ⊥)
         (λ exit. IsReturn text.now exit) }
@@ -89,7 +90,7 @@ fn read_return(text: &[u8]) -> Option<i32>
     read_constant(before_end(behind)?)
 }
 
-// What stands before the `;}` at the end of a text, behind which one line end may stand.
+/// What stands before the `;}` at the end of a text, behind which one line end may stand.
 fn before_end(text: &[u8]) -> Option<&[u8]>
     ensures { MatchOption result ((front end : List ℕ) → IsEnd end → text.now ≡ front ++ end → ⊥)
         (λ front. (end : List ℕ) × IsEnd end × (text.now ≡ front.now ++ end)) }
@@ -100,7 +101,7 @@ fn before_end(text: &[u8]) -> Option<&[u8]>
     }
 }
 
-// Reads a decimal constant without leading zeros.
+/// Reads a decimal constant without leading zeros.
 fn read_constant(digits: &[u8]) -> Option<i32>
     ensures { MatchOption result ((value : ℤ) → IsConstant digits.now value → ⊥)
         (λ value. IsConstant digits.now value) }
@@ -115,21 +116,21 @@ fn read_constant(digits: &[u8]) -> Option<i32>
     text.parse().ok()
 }
 
-// Whether a text is of digits alone.
+/// Whether a text is of digits alone.
 fn are_digits(text: &[u8]) -> bool
     ensures { IsTrue result ↔ All IsAsciiDigit text.now }
 {
     text.iter().all(|byte| byte.is_ascii_digit())
 }
 
-// Whether a 0 stands before other digits.
+/// Whether a 0 stands before other digits.
 fn has_leading_zero(digits: &[u8]) -> bool
     ensures { IsTrue result ↔ HasLeadingZero digits.now }
 {
     digits.len() > 1 && digits[0] == b'0'
 }
 
-// What stands behind a front.
+/// What stands behind a front.
 fn without_front<'a>(text: &'a [u8], front: &[u8]) -> Option<&'a [u8]>
     ensures { MatchOption result ((rest : List ℕ) → text.now ≡ front.now ++ rest → ⊥)
         (λ rest. text.now ≡ front.now ++ rest.now) }
@@ -137,7 +138,7 @@ fn without_front<'a>(text: &'a [u8], front: &[u8]) -> Option<&'a [u8]>
     text.strip_prefix(front)
 }
 
-// What stands before a back.
+/// What stands before a back.
 fn without_back<'a>(text: &'a [u8], back: &[u8]) -> Option<&'a [u8]>
     ensures { MatchOption result ((rest : List ℕ) → text.now ≡ rest ++ back.now → ⊥)
         (λ rest. text.now ≡ rest.now ++ back.now) }
@@ -145,7 +146,7 @@ fn without_back<'a>(text: &'a [u8], back: &[u8]) -> Option<&'a [u8]>
     text.strip_suffix(back)
 }
 
-// Whether a character stands for itself between single quotes.
+/// Whether a character stands for itself between single quotes.
 fn is_plain(character: u8) -> bool
     ensures { IsTrue result ↔ IsPlain character }
 {

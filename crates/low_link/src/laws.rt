@@ -1,4 +1,5 @@
-// Laws of the texts of the form, and of their programs; and of what any text is to the front.
+//! Laws of the texts of the form, and of their programs; and of what any text is to the front.
+
 ghost use Rattle.std.specs.Prelude.{◌≡◌, ℕ, List};
 ghost use Rattle.c_tree.specs.Item.{Item};
 ghost use Rattle.low_link.specs.Front.{Spells, IsAccepted, Fits, Refuses};

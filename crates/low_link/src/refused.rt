@@ -1,4 +1,4 @@
-// Why a text has no program.
+//! Why a text has no program.
 
 use c_check::CheckFault;
 use c_expr::ParseFault;

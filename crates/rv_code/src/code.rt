@@ -1,4 +1,5 @@
-// The words of instructions.
+//! The words of instructions.
+
 ghost use Rattle.std.specs.Prelude.{◌≡◌, ◌<◌, ◌^◌, Some, IfSome};
 ghost use Rattle.rv_code.specs.declared.instr.Instr.{Instr};
 ghost use Rattle.rv_code.specs.Table.{IsInstr, word_of, instr_of, signed_12};
@@ -49,7 +50,7 @@ pub fn decode(word: u32) -> Option<Instr>
     None
 }
 
-// 12 bits in two's complement.
+/// 12 bits in two's complement.
 fn sign_extended(bits: u32) -> i32
     requires { bits < 2 ^ 12 }
     ensures { result ≡ signed_12 bits }

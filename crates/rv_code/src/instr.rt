@@ -1,4 +1,4 @@
-// The instructions.
+//! The instructions.
 
 /// An instruction of RV32I. A register number is below 32, `upper` is below 2^20, and `imm` is
 /// from -2,048 to 2,047.

@@ -188,8 +188,8 @@ module _ (again : ℕ → List Token → Outcome Stmt) where
   else_part_by true x s place r ts = do
     first ← take r ts
     t ← again r first.1
-    Ok (stmt.IfElse x s t.0 place, t.1)
-  else_part_by false x s place r ts = Ok (stmt.If x s place, ts)
+    Ok (stmt.If x s (stmt.Else t.0) place, t.1)
+  else_part_by false x s place r ts = Ok (stmt.If x s stmt.NoElse place, ts)
 
   abbrev pub else_part : Expr → Stmt → Place → ℕ → List Token → Outcome Stmt
   else_part x s place r ts = else_part_by (is_next (word (codes "else")) ts) x s place r ts

@@ -2,7 +2,7 @@
 use Rattle.std.specs.Prelude.{ℕ, suc, ◌+◌, ◌==◌, not, List, [], ◌∷◌, ◌++◌, take, drop, map, reverse, Option, Some, None, if◌then◌else◌}
 use Rattle.std.specs.Option.{option_copied}
 use Rattle.c_tree.specs.Item.{Item}
-use Rattle.c_tree.specs.Constant.{decides}
+use Rattle.c_tree.specs.Groups.{group, decides}
 use Rattle.c_tree.specs.Arithmetic.{truth, unary_word}
 use Rattle.c_resolve.specs.declared.action.Beginning.{Beginning}
 use Rattle.c_semantics.specs.declared.flow.Flow.{Flow}
@@ -24,7 +24,7 @@ use Rattle.c_semantics.specs.Eval.{Calls, outcome, is_unsigned, binary_act, assi
 use Rattle.c_semantics.specs.Exec.{after_turn, loop, turns, with_locals}
 use Rattle.c_resolve.specs.Nodes.{Runs, constant, name_address, cast_value, all_values, target_run, runs}
 use Rattle.c_meaning.specs.private.Acts.{stepped_at}
-use Rattle.c_resolve.specs.Actions.{value_run, init_run, passing, first_run, test_run, step_run, action_run, body_run, optional_run}
+use Rattle.c_resolve.specs.Actions.{value_run, init_run, passing, first_run, test_run, step_run, action_run, body_run, else_run}
 use Rattle.c_semantics.specs.Meaning.{calls_at, value_of_flow}
 use Rattle.c_tree.specs.declared.undefined.Undefined.TheVariants.{NoValue}
 
@@ -105,7 +105,7 @@ module _ (definitions : List Definition) (input : List ℕ) (calls : Calls) wher
   done (task.Binary op c d at) vs rest =
       two_operands vs (λ x y. count >> binary_act op c d x y at) rest
   done (task.Logic op b) vs rest =
-      one_operand vs (λ x. if decides op x then pure x
+      one_operand vs (λ x. if decides (group op) x then pure x
       else value_run definitions input calls b.now) rest
   done task.Truth vs rest = one_operand vs (λ x. count >> pure (truth (not (x == 0)))) rest
   done (task.Conditional a b) vs rest =
@@ -130,7 +130,7 @@ module _ (definitions : List Definition) (input : List ℕ) (calls : Calls) wher
       with_locals ls.now (begun_loop first.now l) >>= λ f. rest f vs
   done (task.End f) vs rest = rest f vs
   done (task.If a b) vs rest =
-      (if first_of vs == 0 then optional_run definitions input calls (option_copied b)
+      (if first_of vs == 0 then else_run (action_run definitions input calls) (option_copied b)
       else action_run definitions input calls a.now) >>= λ f. rest f (below vs)
   done (task.Loop how l) vs rest = loop_at how l vs rest
   done (task.Return h) vs rest = rest (AtReturn (Some (cast_value h (first_of vs)))) (below vs)

@@ -10,13 +10,12 @@ use Rattle.c_tree.specs.declared.tree.StmtKind.{StmtKind}
 use Rattle.c_tree.specs.Ty.{Ty}
 use Rattle.c_tree.specs.Stmt.{Stmt, Stmts}
 use Rattle.c_tree.specs.Stmt as stmt
-use Rattle.c_tree.specs.View.{expr_of, var_of, first_of, if_of, boxed_stmt_of, ty_of, stmt_kind_of, stmt_of, stmts_of}
-use Rattle.c_layout.specs.Frames.{locals, body_locals}
-use Rattle.c_semantics.specs.declared.flow.Flow.TheVariants.{Normal}
+use Rattle.c_tree.specs.View.{expr_of, var_of, first_of, boxed_stmt_of, else_of, ty_of, stmt_kind_of, stmt_of, stmts_of}
+use Rattle.c_layout.specs.Frames.{locals, else_locals, body_locals}
 use Rattle.c_resolve.specs.declared.names.Names.{Names as Listed}
 use Rattle.c_resolve.specs.declared.statement.Acted.{Acted}
-use Rattle.c_semantics.specs.Run.{pure, ◌>>=◌}
-use Rattle.c_semantics.specs.Exec.{next, begin, beginning_own, step as step_of, test as test_of, behind, statement_locals, block_locals, exec, exec_all}
+use Rattle.c_semantics.specs.Run.{◌>>=◌}
+use Rattle.c_semantics.specs.Exec.{next, begin, beginning_own, step as step_of, test as test_of, behind, statement_locals, block_locals, exec, exec_else, exec_all}
 use Rattle.c_semantics.specs.Names.{no_names}
 use Rattle.c_resolve.specs.Entries.{with_entries}
 use Rattle.c_resolve.specs.private.Acted.{IsActionOf}
@@ -24,7 +23,7 @@ use Rattle.c_resolve.specs.Actions.{if_run, while_run, do_run, for_run, action_r
 use Rattle.c_resolve.specs.private.Resolved.{names_in}
 use Rattle.c_resolve.proofs.Acting.{in_order_then, in_order_push, in_order_is}
 use Rattle.c_resolve.proofs.Passing.{kept_on}
-use Rattle.c_resolve.proofs.ActionViews.{if_is, while_is, do_is, for_is}
+use Rattle.c_resolve.proofs.ActionViews.{while_is, do_is, for_is}
 use Rattle.c_resolve.proofs.statement.+statement.Goals as goal
 
 -- a statement, by its kind
@@ -38,11 +37,30 @@ Means names places gives result s = IfOk result (λ acted. IsActionOf names plac
 abbrev Leaves : List ℕ → Result Acted OutOfMemory → Stmt → Type 0
 Leaves places result s = IfOk result (λ acted. acted.rest.now ≡ behind s places)
 
-pub resolve_if-returns-clause-means : goal.resolve_if-returns-clause-means
-resolve_if-returns-clause-means t c = λ at definitions input calls.
-    let does = c.in_ok-test.ensures.means definitions input calls in
-    let acts = ap (action_run definitions input calls) c.in_ok-body.ensures.ok ∙ c.in_ok-acted.ensures.means definitions input calls in
-    if_is definitions input calls c.in_ok-test.field-0.node c.in_ok-body.body ∙ (λ i. if_run (does i).value (acts i) (pure Normal))
+pub resolve_else-returns-in-None-clause-rest : goal.resolve_else-returns-in-None-clause-rest
+resolve_else-returns-in-None-clause-rest t c =
+    ap (λ (o : Option (Box StmtTree Global)). drop (length (else_locals (else_of boxed_stmt_of o))) c.args.places.now) (sym c.in-None.is)
+
+pub resolve_else-returns-in-None-clause-means : goal.resolve_else-returns-in-None-clause-means
+resolve_else-returns-in-None-clause-means t c = λ definitions input calls.
+    ap (λ (o : Option (Box StmtTree Global)). exec_else input calls (ty_of c.args.gives.now) (names_in definitions c.args.names.now) c.args.places.now (else_of boxed_stmt_of o)) (sym c.in-None.is)
+
+pub resolve_else-returns-in_ok-action-in-Some-clause-rest : goal.resolve_else-returns-in_ok-action-in-Some-clause-rest
+resolve_else-returns-in_ok-action-in-Some-clause-rest t c =
+    let places = c.args.places.now in
+    c.in_ok-acted-in-Some.ensures.rest
+    ∙ ((λ i. behind (stmt_of (c.deref.ensures i)) places)
+    ∙ ap (λ (o : Option (Box StmtTree Global)). drop (length (else_locals (else_of boxed_stmt_of o))) places) (sym c.in-Some.is))
+
+pub resolve_else-returns-in_ok-action-in-Some-clause-means : goal.resolve_else-returns-in_ok-action-in-Some-clause-means
+resolve_else-returns-in_ok-action-in-Some-clause-means t c = λ definitions input calls.
+    let places = c.args.places.now in
+    let gives = ty_of c.args.gives.now in
+    let names = names_in definitions c.args.names.now in
+    ap (action_run definitions input calls) c.in_ok-action-in-Some.ensures.ok
+    ∙ (c.in_ok-acted-in-Some.ensures.means definitions input calls
+    ∙ ((λ i. exec input calls gives names places (stmt_of (c.deref.ensures i)))
+    ∙ ap (λ (o : Option (Box StmtTree Global)). exec_else input calls gives names places (else_of boxed_stmt_of o)) (sym c.in-Some.is)))
 
 pub resolve_while-returns-clause-means : goal.resolve_while-returns-clause-means
 resolve_while-returns-clause-means t c = λ at definitions input calls.
@@ -98,47 +116,38 @@ resolve_stmt-returns-in_ok-action-in-Vars-clause-means t c =
     let same : stmt.Vars (map var_of c.deref.result.now) at ≡ stmt_of s = ap (λ vs. stmt.Vars (map var_of vs) at) c.deref.ensures.value ∙ sym here in
     subst Acts same (c.in_ok-action-in-Vars.ensures.means c.args.gives.now at)
 
-pub resolve_stmt-returns-in-None-clause-means : goal.resolve_stmt-returns-in-None-clause-means
-resolve_stmt-returns-in-None-clause-means t c =
-    let s = c.args.s.now in
-    let test = c.in-If.test in
-    let then = c.in-If.then in
-    let here = of s _ (stmt.If (expr_of test) (boxed_stmt_of then) s.place) c.in-If.is (tree.if_is test then c.in-If.other s.place ∙ ap (λ (o : Option (Box StmtTree Global)). if_of (expr_of test) (boxed_stmt_of then) (option_map boxed_stmt_of o) s.place) c.in-None.is) in
-    let same : stmt.If (expr_of test) (stmt_of c.deref-in-None.result.now) s.place ≡ stmt_of s = ap (λ b. stmt.If (expr_of test) (stmt_of b) s.place) c.deref-in-None.ensures ∙ sym here in
-    subst (Means c.args.names.now c.args.places.now (ty_of c.args.gives.now) c.resolve_if.result) same (c.resolve_if.ensures.means s.place)
-
-pub resolve_stmt-returns-in_ok-action-in-Some-clause-rest : goal.resolve_stmt-returns-in_ok-action-in-Some-clause-rest
-resolve_stmt-returns-in_ok-action-in-Some-clause-rest t c =
+pub resolve_stmt-returns-in_ok-action-in-If-clause-rest : goal.resolve_stmt-returns-in_ok-action-in-If-clause-rest
+resolve_stmt-returns-in_ok-action-in-If-clause-rest t c =
     let s = c.args.s.now in
     let places = c.args.places.now in
     let test = c.in-If.test in
     let then = c.in-If.then in
-    let other = c.in-Some.other in
-    let here = of s _ (stmt.IfElse (expr_of test) (boxed_stmt_of then) (boxed_stmt_of other) s.place) c.in-If.is (tree.if_is test then c.in-If.other s.place ∙ ap (λ (o : Option (Box StmtTree Global)). if_of (expr_of test) (boxed_stmt_of then) (option_map boxed_stmt_of o) s.place) c.in-Some.is) in
-    c.in_ok-no-in-Some.ensures.rest
-    ∙ ((λ i. behind (stmt_of (c.deref-in-Some-2.ensures i)) (c.in_ok-yes-in-Some.ensures.rest i))
-    ∙ ((λ i. behind (boxed_stmt_of other) (behind (stmt_of (c.deref-in-Some.ensures i)) places))
-    ∙ (drop-drop (length (locals (boxed_stmt_of other))) (length (locals (boxed_stmt_of then))) places
-    ∙ (ap (λ n. drop n places) (sym (length-append (locals (boxed_stmt_of then)) (locals (boxed_stmt_of other))))
+    let branch = else_of boxed_stmt_of c.in-If.other in
+    let here = of s _ (stmt.If (expr_of test) (boxed_stmt_of then) branch s.place) c.in-If.is (tree.if_is test then c.in-If.other s.place) in
+    c.in_ok-no-in-If.ensures.rest
+    ∙ (ap (drop (length (else_locals branch))) c.in_ok-yes-in-If.ensures.rest
+    ∙ ((λ i. drop (length (else_locals branch)) (behind (stmt_of (c.deref-in-If.ensures i)) places))
+    ∙ (drop-drop (length (else_locals branch)) (length (locals (boxed_stmt_of then))) places
+    ∙ (ap (λ n. drop n places) (sym (length-append (locals (boxed_stmt_of then)) (else_locals branch)))
     ∙ ap (λ x. behind x places) (sym here)))))
 
-pub resolve_stmt-returns-in_ok-action-in-Some-clause-means : goal.resolve_stmt-returns-in_ok-action-in-Some-clause-means
-resolve_stmt-returns-in_ok-action-in-Some-clause-means t c = λ definitions input calls.
+pub resolve_stmt-returns-in_ok-action-in-If-clause-means : goal.resolve_stmt-returns-in_ok-action-in-If-clause-means
+resolve_stmt-returns-in_ok-action-in-If-clause-means t c = λ definitions input calls.
     let s = c.args.s.now in
     let places = c.args.places.now in
     let gives = ty_of c.args.gives.now in
     let names = names_in definitions c.args.names.now in
     let test = c.in-If.test in
     let then = c.in-If.then in
-    let other = c.in-Some.other in
-    let here = of s _ (stmt.IfElse (expr_of test) (boxed_stmt_of then) (boxed_stmt_of other) s.place) c.in-If.is (tree.if_is test then c.in-If.other s.place ∙ ap (λ (o : Option (Box StmtTree Global)). if_of (expr_of test) (boxed_stmt_of then) (option_map boxed_stmt_of o) s.place) c.in-Some.is) in
-    let does = c.in_ok-test-in-Some.ensures.means definitions input calls in
-    let first = c.deref-in-Some.ensures in
-    let acts = c.in_ok-yes-in-Some.ensures.means definitions input calls ∙ (λ i. exec input calls gives names places (stmt_of (first i))) in
-    let others = c.in_ok-no-in-Some.ensures.means definitions input calls
-    ∙ ((λ i. exec input calls gives (with_entries definitions no_names (c.in_ok-yes-in-Some.ensures.same i)) (c.in_ok-yes-in-Some.ensures.rest i) (stmt_of (c.deref-in-Some-2.ensures i)))
-    ∙ (λ i. exec input calls gives names (behind (stmt_of (first i)) places) (boxed_stmt_of other))) in
-    c.in_ok-action-in-Some.ensures definitions input calls
+    let branch = else_of boxed_stmt_of c.in-If.other in
+    let here = of s _ (stmt.If (expr_of test) (boxed_stmt_of then) branch s.place) c.in-If.is (tree.if_is test then c.in-If.other s.place) in
+    let does = c.in_ok-test-in-If.ensures.means definitions input calls in
+    let first = c.deref-in-If.ensures in
+    let acts = c.in_ok-yes-in-If.ensures.means definitions input calls ∙ (λ i. exec input calls gives names places (stmt_of (first i))) in
+    let others = c.in_ok-no-in-If.ensures.means definitions input calls
+    ∙ ((λ i. exec_else input calls gives (with_entries definitions no_names (c.in_ok-yes-in-If.ensures.same i)) (c.in_ok-yes-in-If.ensures.rest i) branch)
+    ∙ (λ i. exec_else input calls gives names (behind (stmt_of (first i)) places) branch)) in
+    c.in_ok-action-in-If.ensures definitions input calls
     ∙ ((λ i. if_run (does i).value (acts i) (others i))
     ∙ ap (exec input calls gives names places) (sym here))
 
