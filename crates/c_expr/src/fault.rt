@@ -1,7 +1,6 @@
 //! Faults of a list of tokens.
 
 use c_tree::{OutOfMemory, Place};
-use std::alloc::{AllocError, AllocFailed};
 
 /// Why a list of tokens has no tree.
 #[derive(Clone, Copy, Debug, PartialEq, Eq)]
@@ -13,35 +12,13 @@ pub enum ParseFault {
     OutOfMemory,
 }
 
-impl From<AllocError> for ParseFault {
+impl<E: Into<OutOfMemory> + Drop> From<E> for ParseFault {
     ghost use Rattle.std.specs.Prelude.{◌≡◌};
     ghost use Rattle.c_expr.specs.declared.fault.ParseFault.TheVariants.{OutOfMemory};
 
     ghost from_gives = { λ _ fault. fault ≡ OutOfMemory };
 
-    fn from(_: AllocError) -> Self {
-        ParseFault::OutOfMemory
-    }
-}
-
-impl<T: Drop> From<AllocFailed<T>> for ParseFault {
-    ghost use Rattle.std.specs.Prelude.{◌≡◌};
-    ghost use Rattle.c_expr.specs.declared.fault.ParseFault.TheVariants.{OutOfMemory};
-
-    ghost from_gives = { λ _ fault. fault ≡ OutOfMemory };
-
-    fn from(_: AllocFailed<T>) -> Self {
-        ParseFault::OutOfMemory
-    }
-}
-
-impl From<OutOfMemory> for ParseFault {
-    ghost use Rattle.std.specs.Prelude.{◌≡◌};
-    ghost use Rattle.c_expr.specs.declared.fault.ParseFault.TheVariants.{OutOfMemory};
-
-    ghost from_gives = { λ _ fault. fault ≡ OutOfMemory };
-
-    fn from(_: OutOfMemory) -> Self {
+    fn from(_: E) -> Self {
         ParseFault::OutOfMemory
     }
 }

@@ -1,7 +1,6 @@
 //! Why a text has no layout.
 
 use c_tree::{OutOfMemory, Place};
-use std::alloc::{AllocError, AllocFailed};
 
 /// Why a text has no layout.
 #[derive(Clone, Copy, Debug, PartialEq, Eq)]
@@ -13,35 +12,13 @@ pub enum LayoutFault {
     OutOfMemory,
 }
 
-impl From<AllocError> for LayoutFault {
+impl<E: Into<OutOfMemory> + Drop> From<E> for LayoutFault {
     ghost use Rattle.std.specs.Prelude.{◌≡◌};
     ghost use Rattle.c_layout.specs.declared.fault.LayoutFault.TheVariants.{OutOfMemory};
 
     ghost from_gives = { λ _ fault. fault ≡ OutOfMemory };
 
-    fn from(_: AllocError) -> Self {
-        LayoutFault::OutOfMemory
-    }
-}
-
-impl<T: Drop> From<AllocFailed<T>> for LayoutFault {
-    ghost use Rattle.std.specs.Prelude.{◌≡◌};
-    ghost use Rattle.c_layout.specs.declared.fault.LayoutFault.TheVariants.{OutOfMemory};
-
-    ghost from_gives = { λ _ fault. fault ≡ OutOfMemory };
-
-    fn from(_: AllocFailed<T>) -> Self {
-        LayoutFault::OutOfMemory
-    }
-}
-
-impl From<OutOfMemory> for LayoutFault {
-    ghost use Rattle.std.specs.Prelude.{◌≡◌};
-    ghost use Rattle.c_layout.specs.declared.fault.LayoutFault.TheVariants.{OutOfMemory};
-
-    ghost from_gives = { λ _ fault. fault ≡ OutOfMemory };
-
-    fn from(_: OutOfMemory) -> Self {
+    fn from(_: E) -> Self {
         LayoutFault::OutOfMemory
     }
 }

@@ -1,7 +1,6 @@
 //! Faults of a text.
 
-use c_tree::Place;
-use std::alloc::{AllocError, AllocFailed};
+use c_tree::{OutOfMemory, Place};
 
 /// Why a text has no tokens.
 #[derive(Clone, Copy, Debug, PartialEq, Eq)]
@@ -19,24 +18,13 @@ pub enum TokenFault {
     OutOfMemory,
 }
 
-impl From<AllocError> for TokenFault {
+impl<E: Into<OutOfMemory> + Drop> From<E> for TokenFault {
     ghost use Rattle.std.specs.Prelude.{◌≡◌};
     ghost use Rattle.c_token.specs.declared.fault.TokenFault.TheVariants.{OutOfMemory};
 
     ghost from_gives = { λ _ fault. fault ≡ OutOfMemory };
 
-    fn from(_: AllocError) -> Self {
-        TokenFault::OutOfMemory
-    }
-}
-
-impl<T: Drop> From<AllocFailed<T>> for TokenFault {
-    ghost use Rattle.std.specs.Prelude.{◌≡◌};
-    ghost use Rattle.c_token.specs.declared.fault.TokenFault.TheVariants.{OutOfMemory};
-
-    ghost from_gives = { λ _ fault. fault ≡ OutOfMemory };
-
-    fn from(_: AllocFailed<T>) -> Self {
+    fn from(_: E) -> Self {
         TokenFault::OutOfMemory
     }
 }
