@@ -1,4 +1,5 @@
 -- What contracts of private functions alone cite.
+pub mod Checking
 pub mod Defined
 pub mod Firsts
 pub mod Functions

@@ -1,59 +1,50 @@
 //! Declarators of variables (C11 6.7.6).
 
 ghost use Rattle.std.specs.Prelude.{◌≡◌, OnOk, map};
-ghost use Rattle.c_tree.specs.Breach.{Adds};
 ghost use Rattle.c_tree.specs.Declarators.{with_declarator, with_declarators, declarator_breaches, declarators_breaches};
 ghost use Rattle.c_tree.specs.View.{var_of};
-ghost use Rattle.c_types.specs.Env.{scope_of};
+ghost use Rattle.c_check.specs.private.Checking.{scope_in, Notes};
 
+use crate::checker::Checker;
 use crate::initialiser::check_init;
 use crate::sizes::check_sizes;
-use c_tree::{Broken, Least, OutOfMemory, Var};
-use c_types::{Env, array_of, note, pointer_to};
-use std::alloc::Global;
+use c_tree::{Broken, OutOfMemory, Var};
+use c_types::{array_of, note, pointer_to};
 
 /// Notes what a declarator breaks, whose name is then in scope.
 #[tactic(auto, using(c_tree::proofs::LeastBreach::append_rules))]
-fn check_declarator(
-    alloc: Global,
-    global: bool,
-    v: &Var,
-    env: &mut Env,
-    least: &mut Least,
-) -> Result<(), OutOfMemory>
+fn check_declarator(checker: &mut Checker, global: bool, v: &Var) -> Result<(), OutOfMemory>
     ensures scope { OnOk result
-        (scope_of env.new ≡ with_declarator (var_of v.now) (scope_of env.old)) }
+        (scope_in checker.new ≡ with_declarator (var_of v.now) (scope_in checker.old)) }
     ensures least { OnOk result
-        (Adds least.old least.new (declarator_breaches global (scope_of env.old) (var_of v.now))) }
+        (Notes checker.old checker.new (declarator_breaches global (scope_in checker.old) (var_of v.now))) }
 {
-    let all_fit = check_sizes(&v.sizes, env, least);
-    let is_here = env.is_here(&v.name);
-    note(least, !is_here, Broken::Twice, v.place);
-    note(least, all_fit, Broken::Mismatch, v.place);
-    let element = pointer_to(alloc, &v.base, v.stars)?;
-    let ty = array_of(alloc, element, &v.sizes)?;
-    env.declare(&v.name, ty.again(alloc)?)?;
-    check_init(v, &ty, global, env, least);
+    let all_fit = check_sizes(&v.sizes, &checker.env, &mut checker.least);
+    let is_here = checker.env.is_here(&v.name);
+    note(&mut checker.least, !is_here, Broken::Twice, v.place);
+    note(&mut checker.least, all_fit, Broken::Mismatch, v.place);
+    let element = pointer_to(checker.alloc, &v.base, v.stars)?;
+    let ty = array_of(checker.alloc, element, &v.sizes)?;
+    checker.env.declare(&v.name, ty.again(checker.alloc)?)?;
+    check_init(v, &ty, global, &checker.env, &mut checker.least);
     Ok(())
 }
 
 /// Notes what declarators break, whose names are then in scope.
 #[tactic(auto, using(c_tree::proofs::LeastBreach::append_rules))]
 pub(crate) fn check_declarators(
-    alloc: Global,
+    checker: &mut Checker,
     global: bool,
     vars: &[Var],
-    env: &mut Env,
-    least: &mut Least,
 ) -> Result<(), OutOfMemory>
     ensures scope { OnOk result
-        (scope_of env.new ≡ with_declarators (map var_of vars.now) (scope_of env.old)) }
+        (scope_in checker.new ≡ with_declarators (map var_of vars.now) (scope_in checker.old)) }
     ensures least { OnOk result
-        (Adds least.old least.new
-        (declarators_breaches global (scope_of env.old) (map var_of vars.now))) }
+        (Notes checker.old checker.new
+        (declarators_breaches global (scope_in checker.old) (map var_of vars.now))) }
 {
     for v in vars {
-        check_declarator(alloc, global, v, env, least)?;
+        check_declarator(checker, global, v)?;
     }
     Ok(())
 }

@@ -6,12 +6,13 @@ ghost use Rattle.c_tree.specs.Accepted.{result_shape, same_all, again_breaches, 
 ghost use Rattle.c_tree.specs.Breach.{Adds};
 ghost use Rattle.c_tree.specs.View.{ty_of, param_of, fun_of};
 ghost use Rattle.c_types.specs.Env.{scope_of, known};
+ghost use Rattle.c_check.specs.private.Checking.{scope_in, Notes};
 ghost use Rattle.c_check.specs.private.Functions.{declared_function, heading_breaches, routine_breaches};
 
+use crate::checker::Checker;
 use crate::statement::check_body;
 use c_tree::{Broken, CType, Fun, Least, Name, OutOfMemory, Param, Place};
 use c_types::{Env, Known, note, parameter_type, parameter_types, pointer_to, same_type};
-use std::alloc::Global;
 
 /// The most parameters that a function can have.
 const MOST_PARAMETERS: usize = 8;
@@ -61,24 +62,30 @@ fn check_again(
 /// Notes what a function's heading breaks, whose name is then in scope.
 #[tactic(auto, using(c_tree::proofs::LeastBreach::append_rules))]
 fn check_heading(
-    alloc: Global,
+    checker: &mut Checker,
     f: &Fun,
     gives: &CType,
     is_defined: bool,
-    env: &mut Env,
-    least: &mut Least,
 ) -> Result<(), OutOfMemory>
     requires { ty_of gives.now ≡ result_shape (fun_of f.now) }
     ensures scope { OnOk result
-        (scope_of env.new ≡ declared_function is_defined (fun_of f.now) (scope_of env.old)) }
+        (scope_in checker.new ≡ declared_function is_defined (fun_of f.now) (scope_in checker.old)) }
     ensures least { OnOk result
-        (Adds least.old least.new (heading_breaches (scope_of env.old) (fun_of f.now))) }
+        (Notes checker.old checker.new (heading_breaches (scope_in checker.old) (fun_of f.now))) }
 {
-    let types = parameter_types(alloc, &f.params)?;
-    check_again(env.find_here(&f.name), gives, &types, f.place, least);
+    let types = parameter_types(checker.alloc, &f.params)?;
+    check_again(
+        checker.env.find_here(&f.name),
+        gives,
+        &types,
+        f.place,
+        &mut checker.least,
+    );
     let few = f.params.len() <= MOST_PARAMETERS;
-    note(least, few, Broken::TooManyParameters, f.place);
-    env.declare_fun_of(&f.name, gives.again(alloc)?, types, is_defined)
+    note(&mut checker.least, few, Broken::TooManyParameters, f.place);
+    checker
+        .env
+        .declare_fun_of(&f.name, gives.again(checker.alloc)?, types, is_defined)
 }
 
 /// Notes a parameter without a name, or with one that another has.
@@ -100,39 +107,29 @@ fn declare_name(name: &Option<Name>, ty: CType, env: &mut Env) -> Result<(), Out
     }
 }
 
-fn check_param(
-    alloc: Global,
-    p: &Param,
-    env: &mut Env,
-    least: &mut Least,
-) -> Result<(), OutOfMemory>
+fn check_param(checker: &mut Checker, p: &Param) -> Result<(), OutOfMemory>
     ensures scope { OnOk result
-        (scope_of env.new ≡ with_parameter (param_of p.now) (scope_of env.old)) }
+        (scope_in checker.new ≡ with_parameter (param_of p.now) (scope_in checker.old)) }
     ensures least { OnOk result
-        (Adds least.old least.new
-        (parameter_name_breaches (scope_of env.old) p.now.name p.now.place)) }
+        (Notes checker.old checker.new
+        (parameter_name_breaches (scope_in checker.old) p.now.name p.now.place)) }
 {
-    check_name(&p.name, p.place, env, least);
-    let ty = parameter_type(alloc, p)?;
-    declare_name(&p.name, ty, env)
+    check_name(&p.name, p.place, &checker.env, &mut checker.least);
+    let ty = parameter_type(checker.alloc, p)?;
+    declare_name(&p.name, ty, &mut checker.env)
 }
 
 /// Notes what the parameters of a definition break, whose names are then in scope.
 #[tactic(auto, using(c_tree::proofs::LeastBreach::append_rules))]
-fn check_params(
-    alloc: Global,
-    params: &[Param],
-    env: &mut Env,
-    least: &mut Least,
-) -> Result<(), OutOfMemory>
+fn check_params(checker: &mut Checker, params: &[Param]) -> Result<(), OutOfMemory>
     ensures scope { OnOk result
-        (scope_of env.new ≡ with_parameters (map param_of params.now) (scope_of env.old)) }
+        (scope_in checker.new ≡ with_parameters (map param_of params.now) (scope_in checker.old)) }
     ensures least { OnOk result
-        (Adds least.old least.new
-        (parameters_breaches (scope_of env.old) (map param_of params.now))) }
+        (Notes checker.old checker.new
+        (parameters_breaches (scope_in checker.old) (map param_of params.now))) }
 {
     for p in params {
-        check_param(alloc, p, env, least)?;
+        check_param(checker, p)?;
     }
     Ok(())
 }
@@ -140,48 +137,44 @@ fn check_params(
 /// Notes what a definition breaks. The parameters are in the block of the body.
 #[tactic(auto, using(c_tree::proofs::LeastBreach::append_rules))]
 fn check_fun_body(
-    alloc: Global,
+    checker: &mut Checker,
     f: &Fun,
     gives: &CType,
     was_defined: bool,
-    env: &mut Env,
-    least: &mut Least,
 ) -> Result<(), OutOfMemory>
     requires { ty_of gives.now ≡ result_shape (fun_of f.now) }
-    ensures scope { OnOk result (scope_of env.new ≡ scope_of env.old) }
+    ensures scope { OnOk result (scope_in checker.new ≡ scope_in checker.old) }
     ensures least { OnOk result
-        (Adds least.old least.new
-        (definition_breaches was_defined (scope_of env.old) (fun_of f.now)
+        (Notes checker.old checker.new
+        (definition_breaches was_defined (scope_in checker.old) (fun_of f.now)
         (fun_of f.now).body)) }
 {
     let Some(body) = &f.body else {
         return Ok(());
     };
-    note(least, !was_defined, Broken::Twice, f.place);
-    env.enter()?;
-    check_params(alloc, &f.params, env, least)?;
-    check_body(alloc, body, gives, false, env, least)?;
-    env.leave();
+    note(&mut checker.least, !was_defined, Broken::Twice, f.place);
+    checker.env.enter()?;
+    check_params(checker, &f.params)?;
+    check_body(checker, body, gives, false)?;
+    checker.env.leave();
     Ok(())
 }
 
 /// Notes what a function breaks, whose name is then in scope: the text defines it, or not, and did so before, or not.
 #[tactic(auto, using(c_tree::proofs::LeastBreach::append_rules))]
 pub(crate) fn check_function(
-    alloc: Global,
+    checker: &mut Checker,
     f: &Fun,
     is_defined: bool,
     was_defined: bool,
-    env: &mut Env,
-    least: &mut Least,
 ) -> Result<(), OutOfMemory>
     ensures scope { OnOk result
-        (scope_of env.new ≡ declared_function is_defined (fun_of f.now) (scope_of env.old)) }
+        (scope_in checker.new ≡ declared_function is_defined (fun_of f.now) (scope_in checker.old)) }
     ensures least { OnOk result
-        (Adds least.old least.new
-        (routine_breaches is_defined was_defined (scope_of env.old) (fun_of f.now))) }
+        (Notes checker.old checker.new
+        (routine_breaches is_defined was_defined (scope_in checker.old) (fun_of f.now))) }
 {
-    let gives = pointer_to(alloc, &f.base, f.stars)?;
-    check_heading(alloc, f, &gives, is_defined, env, least)?;
-    check_fun_body(alloc, f, &gives, was_defined, env, least)
+    let gives = pointer_to(checker.alloc, &f.base, f.stars)?;
+    check_heading(checker, f, &gives, is_defined)?;
+    check_fun_body(checker, f, &gives, was_defined)
 }

@@ -1,6 +1,7 @@
 //! Trees checked against the rules of the language.
 #![tactic(auto)]
 
+mod checker;
 mod declarator;
 mod defined;
 mod edge;

@@ -10,13 +10,14 @@ ghost use Rattle.c_tree.specs.Statements.{behind, behind_beginning, test_breache
 ghost use Rattle.c_tree.specs.View.{expr_of, ty_of, first_of, boxed_stmt_of, else_of, stmt_of, stmts_of};
 ghost use Rattle.c_types.specs.Env.{scope_of};
 ghost use Rattle.c_types.specs.Seen.{seen_some};
+ghost use Rattle.c_check.specs.private.Checking.{scope_in, Notes};
 ghost use Rattle.c_check.specs.private.Parts.{head_breaches};
 
+use crate::checker::Checker;
 use crate::declarator::check_declarators;
 use crate::marker::check_marker;
 use c_tree::{Broken, CType, Expr, First, Least, OutOfMemory, Place, Stmt, StmtKind};
 use c_types::{Env, Seen, is_nought, is_void, may_take, may_test, note, walk};
-use std::alloc::Global;
 
 /// Notes what a condition breaks.
 #[tactic(auto, using(c_tree::proofs::LeastBreach::append_rules))]
@@ -72,22 +73,17 @@ fn check_return(value: &Option<Expr>, gives: &CType, place: Place, env: &Env, le
 }
 
 /// Notes what a `for` begins with and breaks. The names that it declares are then in scope.
-fn check_first(
-    alloc: Global,
-    first: &First,
-    env: &mut Env,
-    least: &mut Least,
-) -> Result<(), OutOfMemory>
+fn check_first(checker: &mut Checker, first: &First) -> Result<(), OutOfMemory>
     ensures scope { OnOk result
-        (scope_of env.new ≡ behind_beginning (first_of first.now) (scope_of env.old)) }
+        (scope_in checker.new ≡ behind_beginning (first_of first.now) (scope_in checker.old)) }
     ensures least { OnOk result
-        (Adds least.old least.new (beginning_breaches (scope_of env.old) (first_of first.now))) }
+        (Notes checker.old checker.new (beginning_breaches (scope_in checker.old) (first_of first.now))) }
 {
     match first {
         First::Nothing => Ok(()),
-        First::Vars(vars) => check_declarators(alloc, false, vars, env, least),
+        First::Vars(vars) => check_declarators(checker, false, vars),
         First::Expr(e) => {
-            let _ty = walk(e, env, false, least);
+            let _ty = walk(e, &checker.env, false, &mut checker.least);
             Ok(())
         }
     }
@@ -96,24 +92,22 @@ fn check_first(
 /// Notes what the head of a `for` breaks. The names that it declares are then in scope.
 #[tactic(auto, using(c_tree::proofs::LeastBreach::append_rules))]
 fn check_for_head(
-    alloc: Global,
+    checker: &mut Checker,
     first: &First,
     test: &Option<Expr>,
     step: &Option<Expr>,
     place: Place,
-    env: &mut Env,
-    least: &mut Least,
 ) -> Result<(), OutOfMemory>
     ensures scope { OnOk result
-        (scope_of env.new ≡ behind_beginning (first_of first.now) (scope_of env.old)) }
+        (scope_in checker.new ≡ behind_beginning (first_of first.now) (scope_in checker.old)) }
     ensures least { OnOk result
-        (Adds least.old least.new
+        (Notes checker.old checker.new
         (head_breaches (first_of first.now) (option_map expr_of test.now)
-        (option_map expr_of step.now) place (scope_of env.old))) }
+        (option_map expr_of step.now) place (scope_in checker.old))) }
 {
-    check_first(alloc, first, env, least)?;
-    check_optional_test(test, place, env, least);
-    check_unused(step, env, least);
+    check_first(checker, first)?;
+    check_optional_test(test, place, &checker.env, &mut checker.least);
+    check_unused(step, &checker.env, &mut checker.least);
     Ok(())
 }
 
@@ -121,48 +115,52 @@ fn check_for_head(
 #[cycle(statement)]
 #[tactic(auto, using(c_tree::proofs::ViewLemmas::views, c_tree::proofs::LeastBreach::append_rules))]
 fn check_stmt(
-    alloc: Global,
+    checker: &mut Checker,
     s: &Stmt,
     gives: &CType,
     in_loop: bool,
-    env: &mut Env,
-    least: &mut Least,
 ) -> Result<(), OutOfMemory>
-    ensures scope { OnOk result (scope_of env.new ≡ behind (stmt_of s.now) (scope_of env.old)) }
+    ensures scope { OnOk result (scope_in checker.new ≡ behind (stmt_of s.now) (scope_in checker.old)) }
     ensures least { OnOk result
-        (Adds least.old least.new
-        (statement_breaches (ty_of gives.now) in_loop (stmt_of s.now) (scope_of env.old))) }
+        (Notes checker.old checker.new
+        (statement_breaches (ty_of gives.now) in_loop (stmt_of s.now) (scope_in checker.old))) }
 {
     match &s.kind {
         StmtKind::Empty => {}
         StmtKind::Expr(e) => {
-            let _ty = walk(e, env, false, least);
+            let _ty = walk(e, &checker.env, false, &mut checker.least);
         }
-        StmtKind::Vars(vars) => check_declarators(alloc, false, vars, env, least)?,
-        StmtKind::Block(body) => check_block(alloc, body, gives, in_loop, env, least)?,
-        StmtKind::Marker(marker) => check_marker(marker, s.place, env, least),
+        StmtKind::Vars(vars) => check_declarators(checker, false, vars)?,
+        StmtKind::Block(body) => check_block(checker, body, gives, in_loop)?,
+        StmtKind::Marker(marker) => check_marker(marker, s.place, &checker.env, &mut checker.least),
         StmtKind::If(test, then, other) => {
-            check_test(test, s.place, env, least);
-            check_inner(alloc, then, gives, in_loop, env, least)?;
-            check_else(alloc, other, gives, in_loop, env, least)?;
+            check_test(test, s.place, &checker.env, &mut checker.least);
+            check_inner(checker, then, gives, in_loop)?;
+            check_else(checker, other, gives, in_loop)?;
         }
         StmtKind::While(test, body) => {
-            check_test(test, s.place, env, least);
-            check_inner(alloc, body, gives, true, env, least)?;
+            check_test(test, s.place, &checker.env, &mut checker.least);
+            check_inner(checker, body, gives, true)?;
         }
         StmtKind::Do(body, test) => {
-            check_inner(alloc, body, gives, true, env, least)?;
-            check_test(test, s.place, env, least);
+            check_inner(checker, body, gives, true)?;
+            check_test(test, s.place, &checker.env, &mut checker.least);
         }
         StmtKind::For(first, test, step, body) => {
-            env.enter()?;
-            check_for_head(alloc, first, test, step, s.place, env, least)?;
-            check_inner(alloc, body, gives, true, env, least)?;
-            env.leave();
+            checker.env.enter()?;
+            check_for_head(checker, first, test, step, s.place)?;
+            check_inner(checker, body, gives, true)?;
+            checker.env.leave();
         }
-        StmtKind::Return(value) => check_return(value, gives, s.place, env, least),
+        StmtKind::Return(value) => check_return(
+            value,
+            gives,
+            s.place,
+            &checker.env,
+            &mut checker.least,
+        ),
         StmtKind::Break | StmtKind::Continue => {
-            note(least, in_loop, Broken::Mismatch, s.place);
+            note(&mut checker.least, in_loop, Broken::Mismatch, s.place);
         }
     }
     Ok(())
@@ -171,66 +169,60 @@ fn check_stmt(
 /// Notes what a block breaks.
 #[cycle(statement)]
 fn check_block(
-    alloc: Global,
+    checker: &mut Checker,
     body: &[Stmt],
     gives: &CType,
     in_loop: bool,
-    env: &mut Env,
-    least: &mut Least,
 ) -> Result<(), OutOfMemory>
-    ensures scope { OnOk result (scope_of env.new ≡ scope_of env.old) }
+    ensures scope { OnOk result (scope_in checker.new ≡ scope_in checker.old) }
     ensures least { OnOk result
-        (Adds least.old least.new
+        (Notes checker.old checker.new
         (body_breaches (ty_of gives.now) in_loop (stmts_of body.now)
-        (entered (scope_of env.old)))) }
+        (entered (scope_in checker.old)))) }
 {
-    env.enter()?;
-    check_body(alloc, body, gives, in_loop, env, least)?;
-    env.leave();
+    checker.env.enter()?;
+    check_body(checker, body, gives, in_loop)?;
+    checker.env.leave();
     Ok(())
 }
 
 /// Notes what a statement breaks that is a block of its own.
 #[cycle(statement)]
 fn check_inner(
-    alloc: Global,
+    checker: &mut Checker,
     s: &Stmt,
     gives: &CType,
     in_loop: bool,
-    env: &mut Env,
-    least: &mut Least,
 ) -> Result<(), OutOfMemory>
-    ensures scope { OnOk result (scope_of env.new ≡ scope_of env.old) }
+    ensures scope { OnOk result (scope_in checker.new ≡ scope_in checker.old) }
     ensures least { OnOk result
-        (Adds least.old least.new
+        (Notes checker.old checker.new
         (statement_breaches (ty_of gives.now) in_loop (stmt_of s.now)
-        (entered (scope_of env.old)))) }
+        (entered (scope_in checker.old)))) }
 {
-    env.enter()?;
-    check_stmt(alloc, s, gives, in_loop, env, least)?;
-    env.leave();
+    checker.env.enter()?;
+    check_stmt(checker, s, gives, in_loop)?;
+    checker.env.leave();
     Ok(())
 }
 
 /// Notes what stands behind an `else` and breaks a rule.
 #[cycle(statement)]
 fn check_else(
-    alloc: Global,
+    checker: &mut Checker,
     other: &Option<Box<Stmt>>,
     gives: &CType,
     in_loop: bool,
-    env: &mut Env,
-    least: &mut Least,
 ) -> Result<(), OutOfMemory>
-    ensures scope { OnOk result (scope_of env.new ≡ scope_of env.old) }
+    ensures scope { OnOk result (scope_in checker.new ≡ scope_in checker.old) }
     ensures least { OnOk result
-        (Adds least.old least.new
+        (Notes checker.old checker.new
         (else_breaches (ty_of gives.now) in_loop (else_of boxed_stmt_of other.now)
-        (scope_of env.old))) }
+        (scope_in checker.old))) }
 {
     match other {
         None => Ok(()),
-        Some(s) => check_inner(alloc, s, gives, in_loop, env, least),
+        Some(s) => check_inner(checker, s, gives, in_loop),
     }
 }
 
@@ -238,20 +230,18 @@ fn check_else(
 #[cycle(statement)]
 #[tactic(auto, using(c_tree::proofs::LeastBreach::append_rules))]
 pub(crate) fn check_body(
-    alloc: Global,
+    checker: &mut Checker,
     body: &[Stmt],
     gives: &CType,
     in_loop: bool,
-    env: &mut Env,
-    least: &mut Least,
 ) -> Result<(), OutOfMemory>
-    ensures outer { OnOk result ((scope_of env.new).outer ≡ (scope_of env.old).outer) }
+    ensures outer { OnOk result ((scope_in checker.new).outer ≡ (scope_in checker.old).outer) }
     ensures least { OnOk result
-        (Adds least.old least.new
-        (body_breaches (ty_of gives.now) in_loop (stmts_of body.now) (scope_of env.old))) }
+        (Notes checker.old checker.new
+        (body_breaches (ty_of gives.now) in_loop (stmts_of body.now) (scope_in checker.old))) }
 {
     for s in body {
-        check_stmt(alloc, s, gives, in_loop, env, least)?;
+        check_stmt(checker, s, gives, in_loop)?;
     }
     Ok(())
 }

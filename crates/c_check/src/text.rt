@@ -6,10 +6,11 @@ ghost use Rattle.c_tree.specs.Breach.{least_of, nothing_found, Adds};
 ghost use Rattle.c_tree.specs.Scope.{empty_scope};
 ghost use Rattle.c_tree.specs.Item.{Item as PureItem};
 ghost use Rattle.c_tree.specs.View.{item_of, items_of};
-ghost use Rattle.c_types.specs.Env.{scope_of};
+ghost use Rattle.c_check.specs.private.Checking.{scope_in, Notes};
 ghost use Rattle.c_check.specs.private.Defined.{Defines};
 ghost use Rattle.c_check.specs.CheckFaults.{IsFault};
 
+use crate::checker::Checker;
 use crate::declarator::check_declarators;
 use crate::defined::{Defined, defined_by};
 use crate::edge::edges_of;
@@ -18,45 +19,42 @@ use crate::function::check_function;
 use crate::main_function::has_main;
 use crate::region::check_edges;
 use c_tree::{Breach, Checked, Item, Least, OutOfMemory, Place, Ranking, Tree};
-use c_types::{Env, none_found};
 use std::alloc::Global;
 
 /// Notes what an item breaks, whose names are then in scope, by what the whole text defines and what it did before the item.
 fn check_item(
-    alloc: Global,
+    checker: &mut Checker,
     item: &Item,
     whole: &Defined,
     before: &Defined,
-    env: &mut Env,
-    least: &mut Least,
 ) -> Result<(), OutOfMemory>
     ensures scope { (all : List PureItem) → Defines whole.now all
-        → OnOk result (scope_of env.new ≡ behind_part all (item_of item.now) (scope_of env.old)) }
+        → OnOk result (scope_in checker.new ≡ behind_part all (item_of item.now) (scope_in checker.old)) }
     ensures least { (all ps : List PureItem) → Defines whole.now all → Defines before.now ps
-        → OnOk result (Adds least.old least.new
-        (part_breaches all ps (scope_of env.old) (item_of item.now))) }
+        → OnOk result (Notes checker.old checker.new
+        (part_breaches all ps (scope_in checker.old) (item_of item.now))) }
 {
     match item {
-        Item::Vars(_, vars) => check_declarators(alloc, true, vars, env, least),
+        Item::Vars(_, vars) => check_declarators(checker, true, vars),
         Item::Fun(f) => {
             let is_defined = whole.has(&f.name);
             let was_defined = before.has(&f.name);
-            check_function(alloc, f, is_defined, was_defined, env, least)
+            check_function(checker, f, is_defined, was_defined)
         }
     }
 }
 
-/// Notes what the items of a text break.
+/// Notes what the items of a text break, where no name is in scope yet.
 #[tactic(auto, using(c_tree::proofs::LeastBreach::append_rules))]
-fn check_items(alloc: Global, items: &[Item], least: &mut Least) -> Result<(), OutOfMemory>
-    ensures { OnOk result (Adds least.old least.new
+fn check_items(checker: &mut Checker, items: &[Item]) -> Result<(), OutOfMemory>
+    requires { scope_in checker.old ≡ empty_scope }
+    ensures { OnOk result (Notes checker.old checker.new
         (parts_breaches (map item_of items.now) [] empty_scope (map item_of items.now))) }
 {
-    let whole = defined_by(alloc, items)?;
-    let mut before = Defined::new(alloc);
-    let mut env = Env::new(alloc)?;
+    let whole = defined_by(checker.alloc, items)?;
+    let mut before = Defined::new(checker.alloc);
     for item in items {
-        check_item(alloc, item, &whole, &before, &mut env, least)?;
+        check_item(checker, item, &whole, &before)?;
         before.pass(item)?;
     }
     Ok(())
@@ -68,11 +66,11 @@ fn least_breach(alloc: Global, tree: &Tree) -> Result<Least, OutOfMemory>
     ensures { IfOk result (λ least. least
         ≡ least_of (nothing_found Ranking.ForChecks) (text_breaches (items_of tree.now))) }
 {
-    let mut least = none_found(Ranking::ForChecks);
-    check_items(alloc, &tree.items, &mut least)?;
+    let mut checker = Checker::new(alloc)?;
+    check_items(&mut checker, &tree.items)?;
     let edges = edges_of(alloc, &tree.items)?;
-    check_edges(alloc, &edges, &mut least)?;
-    Ok(least)
+    check_edges(alloc, &edges, &mut checker.least)?;
+    Ok(checker.least)
 }
 
 /// The tree as an accepted one, or why it isn't, by its least breach.
