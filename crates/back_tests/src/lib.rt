@@ -11,5 +11,3 @@ mod meanings;
 mod memory;
 #[cfg(test)]
 mod resolved;
-#[cfg(test)]
-mod shown;

@@ -1,4 +1,4 @@
-//! What globals hold before a program runs, as programs put it out.
+//! What programs put out and how they end: what globals hold at first, and which names, types and places count.
 
 use crate::accepted::accepted;
 use c_meaning::{Meant, Output, evaluate};
@@ -47,14 +47,68 @@ fn meaning_text(alloc: Global, meant: &Meant) -> Result<String, Fail> {
     }
 }
 
+fn meaning_of(alloc: Global, text: &str, input: &[u8]) -> Result<String, Fail> {
+    let (checked, layout) = accepted(alloc, text)?;
+    let meant = evaluate(alloc, &checked, &layout, input, 1000)?;
+    meaning_text(alloc, &meant)
+}
+
 #[test]
 fn what_is_not_given_is_zero(rt: HostRuntime) -> Result<(), Fail> {
     let alloc = rt.alloc();
     for [globals, body, want] in ROWS {
         let text = format!(in alloc; "{globals} int main(void){{{body}}}")?;
-        let (checked, layout) = accepted(alloc, &text)?;
-        let meant = evaluate(alloc, &checked, &layout, b"", 1000)?;
-        assert_eq!(rt; meaning_text(alloc, &meant)?.as_str(), want, "at {globals}");
+        let found = meaning_of(alloc, text.as_str(), b"")?;
+        assert_eq!(rt; found.as_str(), want, "at {globals}");
+    }
+    Ok(())
+}
+
+/// Texts, their input, and what they put out with how they end.
+const TEXTS: [[&str; 3]; 5] = [
+    // A hidden name comes back.
+    [
+        "char x=5; int f(void){return x;} \
+        int main(void){int x; {char x; x=1; putchar(x);} x=2; putchar(f()); return x;}",
+        "",
+        "1 5 exits 2",
+    ],
+    // A sum knows what its pointer points to.
+    [
+        "char a[2][3]; int main(void){unsigned u; u=1; a[1][0]=7; putchar(*(*(a+u))); \
+        return a+u==a;}",
+        "",
+        "7 exits 0",
+    ],
+    // A call knows its function, also one that is defined later, and what it gives is of its type.
+    [
+        "char f(int n){return n;} int g(void); int main(void){return f(getchar()+256)+g();} \
+        int g(void){return 1;}",
+        "A",
+        "exits 66",
+    ],
+    // An act knows how its operands take part, and what its object holds.
+    [
+        "unsigned u; char a[4]; int main(void){char *p; p=&a[1]; *p=u>>1; u=u-1; putchar(u>>31); \
+        return (char)-p[0]?~7:(a[3]+=258);}",
+        "",
+        "1 exits 2",
+    ],
+    // Each local has its place, and each block its locals.
+    [
+        "int main(void){int i; i=9; if(1){char c; c=1; putchar(c);} else {int d=2,e;} \
+        for(int j=0;j<3;j++) {int k=j; putchar(k); continue;} do ; while(0); while(1) break; \
+        return i;}",
+        "",
+        "1 0 1 2 exits 9",
+    ],
+];
+
+#[test]
+fn names_types_and_places_are_worked_out(rt: HostRuntime) -> Result<(), Fail> {
+    for [text, input, want] in TEXTS {
+        let found = meaning_of(rt.alloc(), text, input.as_bytes())?;
+        assert_eq!(rt; found.as_str(), want, "at {text}");
     }
     Ok(())
 }

@@ -1,71 +1,48 @@
-//! Each kind of fault with its place, and what is accepted. A script is the body of a function, in words: each word is a
-//! statement on line 2, in the column of its number.
+//! Each kind of fault with its place, and what is accepted. A body of `main` is on line 2.
 
-mod script;
-
+use crate::read::{read_tree, row};
 use c_check::{CheckFault, CheckKind, check};
-use c_tree::{CType, Fun, Item, Param, Place, Stmt, Tree};
-use script::{name, read_body};
+use c_tree::Place;
 use std::alloc::Global;
+use std::process::Abort;
 use std::test::Fail;
 
-fn param(alloc: Global, index: u32) -> Result<Param, Fail> {
-    let word = format!(in alloc; "p{index}")?;
-    Ok(Param {
-        base: CType::Int,
-        stars: 0,
-        name: Some(name(alloc, word.as_str())?),
-        place: Place { line: 1, column: 9 },
-        array: false,
-    })
+/// Why a text isn't accepted, where it isn't.
+fn refusal(rt: &impl Abort, alloc: Global, text: &str) -> Result<Option<CheckFault>, Fail> {
+    Ok(check(alloc, read_tree(rt, alloc, text)?).err())
 }
 
-/// A text of one function that gives an int, which begins in column 5 of line 1.
-fn text(alloc: Global, word: &str, count: u32, body: Vec<Stmt>) -> Result<Tree, Fail> {
-    let mut params = Vec::new(alloc);
-    for index in 0..count {
-        params.push(param(alloc, index)?)?;
-    }
-    let mut items = Vec::new(alloc);
-    items.push(Item::Fun(Fun {
-        base: CType::Int,
-        stars: 0,
-        name: name(alloc, word)?,
-        place: Place { line: 1, column: 5 },
-        params,
-        body: Some(body),
-    }))?;
-    Ok(Tree { items })
+fn with_body(alloc: Global, body: &str) -> Result<String, Fail> {
+    Ok(format!(in alloc; "int main(void){{\n{body}}}")?)
 }
 
-const ACCEPTED: &str = "return:0
-int:x { int:x x } x
-int:x while{ break } return:x
-begin:255 { begin:1 end:1 } end:255
-wait:63";
+const ACCEPTED: &str = "return 0;
+int x; {int x; x;} x;
+int x; while(1){break;} return x;
+BeginPPR(255); {BeginPPR(1); EndPPR(1);} EndPPR(255);
+Wait(63);";
 
 #[test]
 fn a_tree_without_a_breach_is_accepted(rt: HostRuntime) -> Result<(), Fail> {
-    for script in ACCEPTED.lines() {
-        let body = read_body(rt.alloc(), script)?;
-        let found = check(rt.alloc(), text(rt.alloc(), "main", 0, body)?);
-        assert!(rt; found.is_ok(), "{script}");
+    for body in ACCEPTED.lines() {
+        let text = with_body(rt.alloc(), body)?;
+        assert_eq!(rt; refusal(&rt, rt.alloc(), text.as_str())?, None, "{body}");
     }
     Ok(())
 }
 
-const FAULTS: &str = "x : Unknown 1
-{ int:x } x : Unknown 4
-int:x int:x : Twice 2
-break : BadType 1
-return : BadType 1
-while{ } break : BadType 3
-main(1) : Arguments 1
-wait:64 : Marker 1
-begin:0 : Marker 1
-begin:0 { end:0 } : Marker 1
-begin:0 end:0 begin:0 : Marker 3
-end:0 begin:0 : Marker 1";
+const FAULTS: &str = "x; : Unknown 1
+{int x;} x; : Unknown 10
+int x; int x; : Twice 12
+break; : BadType 1
+return; : BadType 1
+while(1){} break; : BadType 12
+main(1); : Arguments 1
+Wait(64); : Marker 1
+BeginPPR(0); : Marker 1
+BeginPPR(0); {EndPPR(0);} : Marker 1
+BeginPPR(0); EndPPR(0); BeginPPR(0); : Marker 25
+EndPPR(0); BeginPPR(0); : Marker 1";
 
 /// A fault by its name and its column on line 2.
 fn fault(text: &str) -> Result<CheckFault, Fail> {
@@ -84,10 +61,10 @@ fn fault(text: &str) -> Result<CheckFault, Fail> {
 #[test]
 fn a_breach_has_its_place(rt: HostRuntime) -> Result<(), Fail> {
     for line in FAULTS.lines() {
-        let (script, want) = line.split_once(" : ").ok_or("a row has two parts")?;
-        let body = read_body(rt.alloc(), script)?;
-        let found = check(rt.alloc(), text(rt.alloc(), "main", 0, body)?).err();
-        assert_eq!(rt; found, Some(fault(want)?), "{script}");
+        let (body, want) = row(line)?;
+        let text = with_body(rt.alloc(), body)?;
+        let found = refusal(&rt, rt.alloc(), text.as_str())?;
+        assert_eq!(rt; found, Some(fault(want)?), "{body}");
     }
     Ok(())
 }
@@ -96,13 +73,19 @@ fn a_breach_has_its_place(rt: HostRuntime) -> Result<(), Fail> {
 fn a_text_has_a_main_without_parameters(rt: HostRuntime) -> Result<(), Fail> {
     let none = CheckFault::Breach(CheckKind::NoMain, Place { line: 1, column: 1 });
     let many = CheckFault::Breach(CheckKind::TooManyParameters, Place { line: 1, column: 5 });
-    for (word, count, want) in [("f", 0, none), ("main", 8, none), ("main", 9, many)] {
-        let body = read_body(rt.alloc(), "return:0")?;
-        let found = check(rt.alloc(), text(rt.alloc(), word, count, body)?).err();
-        assert_eq!(rt; found, Some(want), "{word} {count}");
+    for (text, want) in [
+        ("int f(void){return 0;}", none),
+        (
+            "int main(int a,int b,int c,int d,int e,int f,int g,int h){return 0;}",
+            none,
+        ),
+        (
+            "int main(int a,int b,int c,int d,int e,int f,int g,int h,int i){return 0;}",
+            many,
+        ),
+        ("int f(void){\nx;}", fault("Unknown 1")?),
+    ] {
+        assert_eq!(rt; refusal(&rt, rt.alloc(), text)?, Some(want), "{text}");
     }
-    let body = read_body(rt.alloc(), "x")?;
-    let found = check(rt.alloc(), text(rt.alloc(), "f", 0, body)?).err();
-    assert_eq!(rt; found, Some(fault("Unknown 1")?));
     Ok(())
 }

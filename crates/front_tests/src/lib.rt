@@ -10,6 +10,8 @@ mod items;
 #[cfg(test)]
 mod layouts;
 #[cfg(test)]
+mod read;
+#[cfg(test)]
 mod tokens;
 #[cfg(test)]
 mod trees;

@@ -3,7 +3,7 @@
 ghost use Rattle.std.specs.Prelude.{◌≤◌, length, IfOk};
 ghost use Rattle.c_types.specs.Env.{scope_of};
 
-use super::read::{ctype, name, row};
+use crate::read::{ctype, name, row};
 use c_types::{Env, Known};
 use std::alloc::Global;
 use std::test::Fail;
