@@ -1,8 +1,10 @@
 //! Statements that are to be executed.
 
-ghost use Rattle.std.specs.Prelude.{OnOk};
+ghost use Rattle.std.specs.Prelude.{◌≡◌, ℕ, List, OnOk};
+ghost use Rattle.c_semantics.specs.Eval.{Calls};
+ghost use Rattle.c_semantics.specs.Names.{Definition};
 ghost use Rattle.std.specs.Option.{option_copied};
-ghost use Rattle.c_resolve.specs.Actions.{action_run, first_run, block_run, for_run, return_flow_run, return_run, step_run, test_run, if_run, vars_run, do_run, ends_with, expr_run, passing, unused_run, value_run, while_run, else_run};
+ghost use Rattle.c_resolve.specs.Actions.{action_run, boxed_run, first_run, block_run, for_run, return_flow_run, return_run, step_run, test_run, if_run, vars_run, do_run, ends_with, expr_run, passing, unused_run, value_run, while_run, else_run};
 ghost use Rattle.c_meaning.specs.private.Turned.{PlansFlow};
 
 use crate::pending::{Edge, Loop, Stage, Task, Wanted, Work};
@@ -43,6 +45,18 @@ fn plan_vars<'a>(
         plan(work, &[Task::Count, Task::Vars(passed)])
     } else {
         plan(work, &[Task::Vars(passed)])
+    }
+}
+
+/// The branch of an `if` that may be left out.
+fn else_action(other: &Option<Box<Action>>) -> Option<&Action>
+    ensures { (definitions : List Definition) (input : List ℕ) (calls : Calls)
+        → else_run (action_run definitions input calls) (option_copied result)
+        ≡ else_run (boxed_run definitions input calls) other.now }
+{
+    match other {
+        None => None,
+        Some(action) => Some(action),
     }
 }
 
@@ -182,12 +196,9 @@ pub(crate) fn plan_stmt<'a>(work: &mut Vec<Work<'a>>, action: &'a Action) -> Res
             plan_block(work, locals, body)?;
             Ok(())
         }
-        Action::If(test, body, None) => {
-            plan_if(work, test, body, None)?;
-            Ok(())
-        }
-        Action::If(test, body, Some(other)) => {
-            plan_if(work, test, body, Some(other))?;
+        Action::If(test, body, other) => {
+            let branch = else_action(other);
+            plan_if(work, test, body, branch)?;
             Ok(())
         }
         Action::While(test, body) => plan_while(work, test, body),

@@ -1,8 +1,8 @@
-use Rattle.std.proofs.Common.{◌∙◌, ap, subst, Some, None}
-use Rattle.c_resolve.specs.declared.action.Action.TheVariants.{If}
-use Rattle.c_semantics.specs.declared.flow.Flow.TheVariants.{Normal}
-use Rattle.c_semantics.specs.Run.{pure}
-use Rattle.c_resolve.specs.Actions.{action_run, if_run, block_run, value_run}
+use Rattle.std.proofs.Common.{◌∙◌, ap, sym, subst}
+use Rattle.std.specs.Option.{option_copied}
+use Rattle.c_semantics.specs.declared.flow.Flow.{Flow}
+use Rattle.c_semantics.specs.Run.{Run}
+use Rattle.c_resolve.specs.Actions.{action_run, else_run, if_run, block_run, value_run}
 use Rattle.c_meaning.specs.private.Turned.{PlansFlow}
 use Rattle.c_meaning.proofs.Planned.{plans_flow}
 use Rattle.c_resolve.proofs.ActionViews.{block_is, if_is}
@@ -19,23 +19,16 @@ returns-in_ok-plan_block-in-Block c =
     (λ definitions input calls. ap (action_run definitions input calls) e.is ∙ block_is definitions input calls e.locals e.body)
     old new both
 
-pub returns-in_ok-plan_if-in-If-None : goal.returns-in_ok-plan_if-in-If-None
-returns-in_ok-plan_if-in-If-None c =
-    let e = c.in-If-None in
+pub returns-in_ok-plan_if-in-If : goal.returns-in_ok-plan_if-in-If
+returns-in_ok-plan_if-in-If c =
+    let e = c.in-If in
     let old = c.args.work.now.items in
     let new = c.plan_if.new.work.items in
-    let body = subst (λ a. PlansFlow (λ definitions input calls. if_run (value_run definitions input calls e.test) (action_run definitions input calls a) (pure Normal)) old new) c.deref-in-If-None.ensures c.in_ok-plan_if-in-If-None.ensures in
-    plans_flow c.args.action.now (λ definitions input calls. if_run (value_run definitions input calls e.test) (action_run definitions input calls e.body.value) (pure Normal))
-    (λ definitions input calls. ap (action_run definitions input calls) (e.is ∙ ap (If e.test e.body) e.field-2-is) ∙ if_is definitions input calls e.test e.body None)
-    old new body
-
-pub returns-in_ok-plan_if-in-If-Some : goal.returns-in_ok-plan_if-in-If-Some
-returns-in_ok-plan_if-in-If-Some c =
-    let e = c.in-If-Some in
-    let old = c.args.work.now.items in
-    let new = c.plan_if-in-If-Some.new.work.items in
-    let body = subst (λ a. PlansFlow (λ definitions input calls. if_run (value_run definitions input calls e.test) (action_run definitions input calls a) (action_run definitions input calls c.deref-in-If-Some-2.result.now)) old new) c.deref-in-If-Some.ensures c.in_ok-plan_if-in-If-Some.ensures in
-    let both = subst (λ a. PlansFlow (λ definitions input calls. if_run (value_run definitions input calls e.test) (action_run definitions input calls e.body.value) (action_run definitions input calls a)) old new) c.deref-in-If-Some-2.ensures body in
-    plans_flow c.args.action.now (λ definitions input calls. if_run (value_run definitions input calls e.test) (action_run definitions input calls e.body.value) (action_run definitions input calls e.other.value))
-    (λ definitions input calls. ap (action_run definitions input calls) (e.is ∙ ap (If e.test e.body) e.field-2-is) ∙ if_is definitions input calls e.test e.body (Some e.other))
-    old new both
+    let branch = c.else_action-branch.result in
+    let planned = subst (λ a. PlansFlow (λ definitions input calls. if_run (value_run definitions input calls e.test) (action_run definitions input calls a) (else_run (action_run definitions input calls) (option_copied branch))) old new) c.deref-in-If.ensures c.in_ok-plan_if-in-If.ensures in
+    plans_flow c.args.action.now (λ definitions input calls. if_run (value_run definitions input calls e.test) (action_run definitions input calls e.body.value) (else_run (action_run definitions input calls) (option_copied branch)))
+    (λ definitions input calls.
+    ap (action_run definitions input calls) e.is
+    ∙ (if_is definitions input calls e.test e.body e.other
+    ∙ ap (λ (other : Run Flow). if_run (value_run definitions input calls e.test) (action_run definitions input calls e.body.value) other) (sym (c.else_action-branch.ensures definitions input calls))))
+    old new planned
