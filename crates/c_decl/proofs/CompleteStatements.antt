@@ -1,6 +1,6 @@
 -- What the grammar of statements has is read, up to its first token whose level is too high, where the next token does not go on.
 use Rattle.std.proofs.Common.{◌≡◌, ◌<◌, ◌≤◌, ◌-◌, ℕ, zero, suc, List, [], ◌∷◌, ◌++◌, length, sub-one, Option, Some, None, Ok, Err, refl, sym, ap, ap₂, ◌∙◌, subst, arith, append_assoc, append-nil, inl, Bool, true, false}
-use Rattle.std.specs.Prelude.{if◌then◌else◌, codes}
+use Rattle.std.specs.Prelude.{if◌then◌else◌}
 use Rattle.c_tree.specs.Expr.{Expr}
 use Rattle.c_tree.specs.First.{First as PureFirst}
 use Rattle.c_tree.specs.Stmt.{Stmt}
@@ -14,7 +14,7 @@ use Rattle.c_token.specs.declared.token.Kind.{Kind}
 use Rattle.c_token.specs.declared.token.Kind.TheVariants as k
 use Rattle.c_expr.specs.declared.fault.ParseFault.TheVariants.{Unexpected, TooDeep}
 use Rattle.c_expr.specs.Leveled.{Leveled, at}
-use Rattle.c_expr.specs.Spelled.{sign, same}
+use Rattle.c_expr.specs.Spelled.{same}
 use Rattle.c_expr.specs.Grammar.{IsAssign}
 use Rattle.c_expr.specs.Next.{Outcome, ◌>>=◌, kind_of, place_of, take, refuse, begins, is_base}
 use Rattle.c_expr.specs.private.ExpressionReading.{turns}
@@ -30,6 +30,8 @@ use Rattle.c_decl.specs.declared.opening.Opening.{Opening}
 use Rattle.c_decl.specs.declared.opening.Opening.TheVariants as o
 use Rattle.c_decl.proofs.Takes.{Takes, TakesTurns, free, Any, here, bind, before, past, last, token, read_as, placed, at_token, Starts, starts_append, starts_token, looped, regroup_turns, regather, turn_more, turn_last}
 use Rattle.c_decl.proofs.CompleteDeclarations.{unlike, takes_assign, takes_name, takes_vars, vars_start}
+use Rattle.c_expr.specs.declared.punctuator.TheConstants.{PARENTHESIS_OPEN, PARENTHESIS_CLOSE, BRACE_OPEN, BRACE_CLOSE, COMMA, SEMICOLON}
+use Rattle.c_decl.specs.declared.reserved.TheConstants.{IF, ELSE, WHILE, DO, FOR, RETURN, BREAK, CONTINUE, POST}
 
 -- markers
 takes_number : (l m r v : ℕ) (ty : CType) (p : Place) → r ≡ m - l
@@ -42,22 +44,22 @@ takes_count (s.number {l = l} {v = v} {ty = ty} p) m r room = token (at l (k.Num
 takes_count (s.name {l = l} {n = n} p) m r room = at_token (at l (k.Name n) p) (λ us. refl) (last _ (takes_name l m r n p room) (λ us fit. fit) (λ us fit. refl))
 
 takes_close : {X : Type 0} (x : X) (l m r : ℕ) (p q : Place) → r ≡ m - l
-    → Takes m Any (at l (sign (codes ")")) p ∷ (at l (sign (codes ";")) q ∷ [])) (close x r)
+    → Takes m Any (at l (k.Sign PARENTHESIS_CLOSE) p ∷ (at l (k.Sign SEMICOLON) q ∷ [])) (close x r)
     (λ us. Ok (x, us))
-takes_close x l m r p q room = token (at l (sign (codes ")")) p) r _ _ room (λ us. refl) (token (at l (sign (codes ";")) q) r _ _ room (λ us. refl) (here (λ us fit. refl)))
+takes_close x l m r p q room = token (at l (k.Sign PARENTHESIS_CLOSE) p) r _ _ room (λ us. refl) (token (at l (k.Sign SEMICOLON) q) r _ _ room (λ us. refl) (here (λ us fit. refl)))
 
 pub takes_marker : {l : ℕ} {a : List Leveled} {mark : Marker} → IsMarker l a mark → (m r : ℕ)
     → r ≡ m - l → Takes m Any a (marker r) (λ us. Ok (mark, us))
 takes_marker (s.numbered {l = l} {v = v} {kind = kind} {ty = ty} {mark = mark} p q n t u e) m r room =
     let first = at l kind p in
-    at_token first (λ us. ap (λ which. marker_by which (is_next (word (codes "Post")) (first.token ∷ us)) r (first.token ∷ us)) e)
-    (last _ (token first r (numbered r) _ room (λ us. refl) (token (at l (sign (codes "(")) q) r _ _ room (λ us. refl)
+    at_token first (λ us. ap (λ which. marker_by which (is_next (word POST.now) (first.token ∷ us)) r (first.token ∷ us)) e)
+    (last _ (token first r (numbered r) _ room (λ us. refl) (token (at l (k.Sign PARENTHESIS_OPEN) q) r _ _ room (λ us. refl)
     (bind _ (takes_number l m r v ty n room) free (takes_close v l m r t u room)))) (λ us fit. fit) (λ us fit. refl))
 takes_marker (s.post {l = l} {v = v} {ty = ty} {n = n} p q c t u w x y h) m r room =
-    token (at l (word (codes "Post")) p) r (marker r) (λ first. post r first.1) room (λ us. refl)
-    (token (at l (sign (codes "(")) q) r _ _ room (λ us. refl) (bind _ (takes_number l m r v ty c room) free
-    (token (at l (sign (codes ",")) t) r _ _ room (λ us. refl) (bind _ (takes_name l m r n u room) free
-    (token (at l (sign (codes ",")) w) r _ _ room (λ us. refl) (bind _ (takes_count h m r room) free (takes_close _ l m r x y room)))))))
+    token (at l (word POST.now) p) r (marker r) (λ first. post r first.1) room (λ us. refl)
+    (token (at l (k.Sign PARENTHESIS_OPEN) q) r _ _ room (λ us. refl) (bind _ (takes_number l m r v ty c room) free
+    (token (at l (k.Sign COMMA) t) r _ _ room (λ us. refl) (bind _ (takes_name l m r n u room) free
+    (token (at l (k.Sign COMMA) w) r _ _ room (λ us. refl) (bind _ (takes_count h m r room) free (takes_close _ l m r x y room)))))))
 
 -- expressions that may be left out
 record Closes (kind : Kind) : Type 0 where
@@ -79,26 +81,26 @@ takes_optional (s.some {l = l} {a = a} {x = x} h) m r room kind q closes =
 
 takes_beginning : {l : ℕ} {a : List Leveled} {x : PureFirst} → IsBeginning l a x → (m r : ℕ)
     → r ≡ m - l → (q : Place)
-    → Takes m Any (a ++ at l (sign (codes ";")) q ∷ []) (beginning r) (λ us. Ok (x, us))
-takes_beginning (s.nothing {l = l}) m r room q = token (at l (sign (codes ";")) q) r _ _ room (λ us. refl) (here (λ us fit. refl))
+    → Takes m Any (a ++ at l (k.Sign SEMICOLON) q ∷ []) (beginning r) (λ us. Ok (x, us))
+takes_beginning (s.nothing {l = l}) m r room q = token (at l (k.Sign SEMICOLON) q) r _ _ room (λ us. refl) (here (λ us fit. refl))
 takes_beginning (s.vars {l = l} h) m r room q =
-    let w = starts_append (at l (sign (codes ";")) q ∷ []) (vars_start h m) in
-    read_as (λ rest ts fit i. let based = w.start rest ts i in ap₂ (λ b c. beginning_by b c r ts) (unlike is_base (sign (codes ";")) (kind_of ts) refl based) based)
+    let w = starts_append (at l (k.Sign SEMICOLON) q ∷ []) (vars_start h m) in
+    read_as (λ rest ts fit i. let based = w.start rest ts i in ap₂ (λ b c. beginning_by b c r ts) (unlike is_base (k.Sign SEMICOLON) (kind_of ts) refl based) based)
     (last _ (takes_vars h m r room q) (λ us fit. fit) (λ us fit. refl))
 takes_beginning (s.assign {l = l} h) m r room q =
-    let ended = at l (sign (codes ";")) q in
+    let ended = at l (k.Sign SEMICOLON) q in
     read_as (λ rest ts fit i.
     let begun = raised_kind m rest ts (raised_append (ended ∷ []) (raised_assign h)) i in
-    ap₂ (λ b c. beginning_by b c r ts) (unlike begins (sign (codes ";")) (kind_of ts) refl begun) (no_base (kind_of ts) begun))
+    ap₂ (λ b c. beginning_by b c r ts) (unlike begins (k.Sign SEMICOLON) (kind_of ts) refl begun) (no_base (kind_of ts) begun))
     (before _ ended (takes_assign h m r room) (λ us. omega arith) (token ended r _ _ room (λ us. refl) (here (λ us fit. refl))))
 
 -- an expression in parentheses
 takes_test : {l : ℕ} {a : List Leveled} {x : Expr} → IsAssign l a x → (m r : ℕ) → r ≡ m - l
     → (p q : Place)
-    → Takes m Any (at l (sign (codes "(")) p ∷ (a ++ at l (sign (codes ")")) q ∷ [])) (test r) (λ us. Ok (x, us))
+    → Takes m Any (at l (k.Sign PARENTHESIS_OPEN) p ∷ (a ++ at l (k.Sign PARENTHESIS_CLOSE) q ∷ [])) (test r) (λ us. Ok (x, us))
 takes_test {l = l} h m r room p q =
-    let closed = at l (sign (codes ")")) q in
-    token (at l (sign (codes "(")) p) r _ _ room (λ us. refl) (before _ closed (takes_assign h m r room) (λ us. omega arith) (token closed r _ _ room (λ us. refl) (here (λ us fit. refl))))
+    let closed = at l (k.Sign PARENTHESIS_CLOSE) q in
+    token (at l (k.Sign PARENTHESIS_OPEN) p) r _ _ room (λ us. refl) (before _ closed (takes_assign h m r room) (λ us. omega arith) (token closed r _ _ room (λ us. refl) (here (λ us fit. refl))))
 
 -- how statements begin
 marker_opens : (kind : Kind) (mark : ℕ → Marker) → marker_of kind ≡ Some mark
@@ -154,7 +156,7 @@ first_statement : {open_if : Bool} {l : ℕ} {a : List Leveled} {x : Stmt}
 first_statement (s.block h) = first_block h
 first_statement s.empty = record { head = _; tail = _; splits = refl; above = omega arith; starts = refl }
 first_statement (s.expression {l = l} p h) =
-    let w = raised_append (at (suc l) (sign (codes ";")) p ∷ []) (raised_assign h) in
+    let w = raised_append (at (suc l) (k.Sign SEMICOLON) p ∷ []) (raised_assign h) in
     record { head = w.head; tail = w.tail; splits = w.splits; above = let above = w.above in omega arith; starts = begins_too w.head.token.kind w.starts }
 first_statement (s.marker h) = first_marker h
 first_statement (s.if q n h i) = record { head = _; tail = _; splits = refl; above = omega arith; starts = refl }
@@ -205,21 +207,21 @@ enter f (suc r) h room deep i = record { goes = λ rest ts fit w. statement_open
 marker_starts : {l : ℕ} {a : List Leveled} {mark : Marker} (m : ℕ) → IsMarker l a mark
     → Starts m a (λ us. opening_of (kind_of us) ≡ Some o.Marker)
 marker_starts m (s.numbered {l = l} {kind = kind} {mark = mark} p q n t u e) = starts_token (at l kind p) (λ us. marker_opens kind mark e)
-marker_starts m (s.post {l = l} p q c t u w x y h) = starts_token (at l (word (codes "Post")) p) (λ us. refl)
+marker_starts m (s.post {l = l} p q c t u w x y h) = starts_token (at l (word POST.now) p) (λ us. refl)
 
 -- parts of a block
 part_is : (f r : ℕ) (found : List Stmt) (ts : List Token) → begins_statement (kind_of ts) ≡ true
     → body_turn (statement f) r found ts
     ≡ (statement f r ts >>= λ s. Ok (inl (found ++ s.0 ∷ []), s.1))
 part_is f r found ts h =
-    ap (λ b. body_turn_by (statement f) b r found ts) (unlike begins_statement (sign (codes "}")) (kind_of ts) refl h)
+    ap (λ b. body_turn_by (statement f) b r found ts) (unlike begins_statement (k.Sign BRACE_CLOSE) (kind_of ts) refl h)
     ∙ ap (λ b. part_by (statement f) b r ts >>= λ s. Ok (inl (found ++ s.0 ∷ []), s.1)) (statement_not_base (kind_of ts) h)
 
 declaration_is : (f r : ℕ) (found : List Stmt) (ts : List Token) → is_base (kind_of ts) ≡ true
     → body_turn (statement f) r found ts
     ≡ (declaration_at (place_of ts) r ts >>= λ s. Ok (inl (found ++ s.0 ∷ []), s.1))
 declaration_is f r found ts h =
-    ap (λ b. body_turn_by (statement f) b r found ts) (unlike is_base (sign (codes "}")) (kind_of ts) refl h)
+    ap (λ b. body_turn_by (statement f) b r found ts) (unlike is_base (k.Sign BRACE_CLOSE) (kind_of ts) refl h)
     ∙ ap (λ b. part_by (statement f) b r ts >>= λ s. Ok (inl (found ++ s.0 ∷ []), s.1)) h
 
 false_not_true : false ≡ true → ⊥
@@ -227,27 +229,27 @@ false_not_true e = cc
 
 -- where no `else` goes on
 abbrev pub NoElse : Bool → List Token → Type 0
-NoElse open_if us = open_if ≡ true → is_next (word (codes "else")) us ≡ false
+NoElse open_if us = open_if ≡ true → is_next (word ELSE.now) us ≡ false
 
-not_else : (kind : Kind) → begins_statement kind ≡ true → same kind (word (codes "else")) ≡ false
-not_else kind h = unlike begins_statement (word (codes "else")) kind refl h
+not_else : (kind : Kind) → begins_statement kind ≡ true → same kind (word ELSE.now) ≡ false
+not_else kind h = unlike begins_statement (word ELSE.now) kind refl h
 
 body_starts : {l : ℕ} {a : List Leveled} {ss : List Stmt} → IsBody l a ss → (m : ℕ) (q : Place)
-    → Starts m (a ++ at l (sign (codes "}")) q ∷ [])
-    (λ us. is_next (word (codes "else")) us ≡ false)
-body_starts (s.none {l = l}) m q = starts_token (at l (sign (codes "}")) q) (λ us. refl)
+    → Starts m (a ++ at l (k.Sign BRACE_CLOSE) q ∷ [])
+    (λ us. is_next (word ELSE.now) us ≡ false)
+body_starts (s.none {l = l}) m q = starts_token (at l (k.Sign BRACE_CLOSE) q) (λ us. refl)
 body_starts (s.stmt {l = l} {a = a} {b = b} h i) m q =
     let w = statement_starts m (first_statement h) in
-    starts_append (at l (sign (codes "}")) q ∷ []) (starts_append b (record { start = λ us ts i. not_else (kind_of ts) (w.start us ts i) }))
+    starts_append (at l (k.Sign BRACE_CLOSE) q ∷ []) (starts_append b (record { start = λ us ts i. not_else (kind_of ts) (w.start us ts i) }))
 body_starts (s.vars {l = l} {first = first} {a = a} {b = b} p h i) m q =
-    let ended = at l (sign (codes ";")) p in
+    let ended = at l (k.Sign SEMICOLON) p in
     let w = starts_append (ended ∷ b) (vars_start h m) in
-    starts_append {a = first ∷ (a ++ ended ∷ b)} (at l (sign (codes "}")) q ∷ []) (record { start = λ us ts i. unlike is_base (word (codes "else")) (kind_of ts) refl (w.start us ts i) })
+    starts_append {a = first ∷ (a ++ ended ∷ b)} (at l (k.Sign BRACE_CLOSE) q ∷ []) (record { start = λ us ts i. unlike is_base (word ELSE.now) (kind_of ts) refl (w.start us ts i) })
 
-semicolon : Closes (sign (codes ";"))
+semicolon : Closes (k.Sign SEMICOLON)
 semicolon = record { itself = refl; begins_none = refl; ends = omega arith }
 
-parenthesis : Closes (sign (codes ")"))
+parenthesis : Closes (k.Sign PARENTHESIS_CLOSE)
 parenthesis = record { itself = refl; begins_none = refl; ends = omega arith }
 
 mutual
@@ -258,13 +260,13 @@ mutual
       → Takes m (NoElse open_if) a (statement f r) (λ us. Ok (x, us))
   takes_statement (s.block {l = l} (s.braces p q h)) m f r room deep =
       enter f r (first_statement (s.block (s.braces p q h))) room deep
-      (token (at (suc l) (sign (codes "{")) p) (r - 1) (opened (statement (f - 1)) (r - 1)) _ (omega arith) (λ us. refl)
+      (token (at (suc l) (k.Sign BRACE_OPEN) p) (r - 1) (opened (statement (f - 1)) (r - 1)) _ (omega arith) (λ us. refl)
       (last _ (looped _ (takes_body h m (f - 1) (r - 1) (omega arith) (omega arith) q [])) (λ us no. tt) (λ us no. refl)))
   takes_statement (s.empty {l = l} {p = p}) m f r room deep =
       enter f r (first_statement (s.empty {p = p})) room deep
-      (token (at (suc l) (sign (codes ";")) p) (r - 1) (opened (statement (f - 1)) (r - 1)) _ (omega arith) (λ us. refl) (here (λ us no. refl)))
+      (token (at (suc l) (k.Sign SEMICOLON) p) (r - 1) (opened (statement (f - 1)) (r - 1)) _ (omega arith) (λ us. refl) (here (λ us no. refl)))
   takes_statement (s.expression {l = l} {first = first} {a = a} {x = x} p h) m f r room deep =
-      let ended = at (suc l) (sign (codes ";")) p in
+      let ended = at (suc l) (k.Sign SEMICOLON) p in
       enter f r (first_statement (s.expression p h)) room deep
       (read_as (λ rest ts no i. ap (λ which. opened_by (statement (f - 1)) which (r - 1) ts) (no_opening (kind_of ts) (raised_kind m rest ts (raised_append (ended ∷ []) (raised_assign h)) i)))
       (placed first (λ place. expression_at place (r - 1)) (before _ ended (takes_assign h m (r - 1) (omega arith)) (λ us. omega arith) (token ended (r - 1) _ _ (omega arith) (λ us. refl) (here (λ us no. refl))))))
@@ -274,64 +276,64 @@ mutual
       (read_as (λ rest ts no i. ap (λ which. opened_by (statement (f - 1)) which (r - 1) ts) (w.start rest ts i))
       (placed first (λ place. marker_at place (r - 1)) (last _ (takes_marker h m (r - 1) (omega arith)) (λ us no. tt) (λ us no. refl))))
   takes_statement (s.if {l = l} {p = p} {a = a} {x = x} {s = y} q n h i) m f r room deep =
-      let opening = at (suc l) (sign (codes "(")) q in
+      let opening = at (suc l) (k.Sign PARENTHESIS_OPEN) q in
       enter f r (first_statement (s.if {p = p} q n h i)) room deep
-      (token (at (suc l) (word (codes "if")) p) (r - 1) (opened (statement (f - 1)) (r - 1)) _ (omega arith) (λ us. refl)
-      (past _ (opening ∷ a) (at (suc l) (sign (codes ")")) n) (takes_test h m (r - 1) (omega arith) q n)
+      (token (at (suc l) (word IF.now) p) (r - 1) (opened (statement (f - 1)) (r - 1)) _ (omega arith) (λ us. refl)
+      (past _ (opening ∷ a) (at (suc l) (k.Sign PARENTHESIS_CLOSE) n) (takes_test h m (r - 1) (omega arith) q n)
       (last _ (takes_statement i m (f - 1) (r - 1) (omega arith) (omega arith)) (λ us no yes. no refl) (λ us no. ap (λ b. else_part_by (statement (f - 1)) b x y p (r - 1) us) (no refl)))))
   takes_statement (s.if_else {l = l} {p = p} {a = a} {x = x} {s = y} q n e h i j) m f r room deep =
-      let opening = at (suc l) (sign (codes "(")) q in
-      let other = at (suc l) (word (codes "else")) e in
+      let opening = at (suc l) (k.Sign PARENTHESIS_OPEN) q in
+      let other = at (suc l) (word ELSE.now) e in
       enter f r (first_statement (s.if_else {p = p} q n e h i j)) room deep
-      (token (at (suc l) (word (codes "if")) p) (r - 1) (opened (statement (f - 1)) (r - 1)) _ (omega arith) (λ us. refl)
-      (past _ (opening ∷ a) (at (suc l) (sign (codes ")")) n) (takes_test h m (r - 1) (omega arith) q n)
+      (token (at (suc l) (word IF.now) p) (r - 1) (opened (statement (f - 1)) (r - 1)) _ (omega arith) (λ us. refl)
+      (past _ (opening ∷ a) (at (suc l) (k.Sign PARENTHESIS_CLOSE) n) (takes_test h m (r - 1) (omega arith) q n)
       (before _ other (takes_statement i m (f - 1) (r - 1) (omega arith) (omega arith)) (λ us yes. absurd (false_not_true yes))
       (token other (r - 1) (else_part (statement (f - 1)) x y p (r - 1)) _ (omega arith) (λ us. refl)
       (last _ (takes_statement j m (f - 1) (r - 1) (omega arith) (omega arith)) (λ us no. no) (λ us no. refl))))))
   takes_statement (s.while {l = l} {p = p} {a = a} {x = x} {s = y} q n h i) m f r room deep =
-      let opening = at (suc l) (sign (codes "(")) q in
+      let opening = at (suc l) (k.Sign PARENTHESIS_OPEN) q in
       enter f r (first_statement (s.while {p = p} q n h i)) room deep
-      (token (at (suc l) (word (codes "while")) p) (r - 1) (opened (statement (f - 1)) (r - 1)) _ (omega arith) (λ us. refl)
-      (past _ (opening ∷ a) (at (suc l) (sign (codes ")")) n) (takes_test h m (r - 1) (omega arith) q n)
+      (token (at (suc l) (word WHILE.now) p) (r - 1) (opened (statement (f - 1)) (r - 1)) _ (omega arith) (λ us. refl)
+      (past _ (opening ∷ a) (at (suc l) (k.Sign PARENTHESIS_CLOSE) n) (takes_test h m (r - 1) (omega arith) q n)
       (last _ (takes_statement i m (f - 1) (r - 1) (omega arith) (omega arith)) (λ us no. no) (λ us no. refl))))
   takes_statement (s.do_while {l = l} {p = p} {a = a} {b = b} w q n e h i) m f r room deep =
-      let again = at (suc l) (word (codes "while")) w in
-      let opening = at (suc l) (sign (codes "(")) q in
-      let ended = at (suc l) (sign (codes ";")) e in
+      let again = at (suc l) (word WHILE.now) w in
+      let opening = at (suc l) (k.Sign PARENTHESIS_OPEN) q in
+      let ended = at (suc l) (k.Sign SEMICOLON) e in
       enter f r (first_statement (s.do_while {p = p} w q n e h i)) room deep
-      (token (at (suc l) (word (codes "do")) p) (r - 1) (opened (statement (f - 1)) (r - 1)) _ (omega arith) (λ us. refl)
+      (token (at (suc l) (word DO.now) p) (r - 1) (opened (statement (f - 1)) (r - 1)) _ (omega arith) (λ us. refl)
       (before _ again (takes_statement h m (f - 1) (r - 1) (omega arith) (omega arith)) (λ us yes. refl)
       (token again (r - 1) _ _ (omega arith) (λ us. refl)
-      (past _ (opening ∷ b) (at (suc l) (sign (codes ")")) n) (takes_test i m (r - 1) (omega arith) q n) (token ended (r - 1) _ _ (omega arith) (λ us. refl) (here (λ us no. refl)))))))
+      (past _ (opening ∷ b) (at (suc l) (k.Sign PARENTHESIS_CLOSE) n) (takes_test i m (r - 1) (omega arith) q n) (token ended (r - 1) _ _ (omega arith) (λ us. refl) (here (λ us no. refl)))))))
   takes_statement (s.for {l = l} {p = p} {a = a} {b = b} {c = c} q n t u h i j w) m f r room deep =
-      let opening = at (suc l) (sign (codes "(")) q in
+      let opening = at (suc l) (k.Sign PARENTHESIS_OPEN) q in
       enter f r (first_statement (s.for {p = p} q n t u h i j w)) room deep
-      (token (at (suc l) (word (codes "for")) p) (r - 1) (opened (statement (f - 1)) (r - 1)) _ (omega arith) (λ us. refl)
+      (token (at (suc l) (word FOR.now) p) (r - 1) (opened (statement (f - 1)) (r - 1)) _ (omega arith) (λ us. refl)
       (token opening (r - 1) _ _ (omega arith) (λ us. refl)
-      (past _ a (at (suc l) (sign (codes ";")) n) (takes_beginning h m (r - 1) (omega arith) n)
-      (past _ b (at (suc l) (sign (codes ";")) t) (takes_optional i m (r - 1) (omega arith) (sign (codes ";")) t semicolon)
-      (past _ c (at (suc l) (sign (codes ")")) u) (takes_optional j m (r - 1) (omega arith) (sign (codes ")")) u parenthesis)
+      (past _ a (at (suc l) (k.Sign SEMICOLON) n) (takes_beginning h m (r - 1) (omega arith) n)
+      (past _ b (at (suc l) (k.Sign SEMICOLON) t) (takes_optional i m (r - 1) (omega arith) (k.Sign SEMICOLON) t semicolon)
+      (past _ c (at (suc l) (k.Sign PARENTHESIS_CLOSE) u) (takes_optional j m (r - 1) (omega arith) (k.Sign PARENTHESIS_CLOSE) u parenthesis)
       (last _ (takes_statement w m (f - 1) (r - 1) (omega arith) (omega arith)) (λ us no. no) (λ us no. refl)))))))
   takes_statement (s.return {l = l} {p = p} q h) m f r room deep =
       enter f r (first_statement (s.return {p = p} q h)) room deep
-      (token (at (suc l) (word (codes "return")) p) (r - 1) (opened (statement (f - 1)) (r - 1)) _ (omega arith) (λ us. refl)
-      (last _ (takes_optional h m (r - 1) (omega arith) (sign (codes ";")) q semicolon) (λ us no. tt) (λ us no. refl)))
+      (token (at (suc l) (word RETURN.now) p) (r - 1) (opened (statement (f - 1)) (r - 1)) _ (omega arith) (λ us. refl)
+      (last _ (takes_optional h m (r - 1) (omega arith) (k.Sign SEMICOLON) q semicolon) (λ us no. tt) (λ us no. refl)))
   takes_statement (s.break {l = l} {p = p} q) m f r room deep =
       enter f r (first_statement (s.break {p = p} q)) room deep
-      (token (at (suc l) (word (codes "break")) p) (r - 1) (opened (statement (f - 1)) (r - 1)) _ (omega arith) (λ us. refl)
-      (token (at (suc l) (sign (codes ";")) q) (r - 1) _ _ (omega arith) (λ us. refl) (here (λ us no. refl))))
+      (token (at (suc l) (word BREAK.now) p) (r - 1) (opened (statement (f - 1)) (r - 1)) _ (omega arith) (λ us. refl)
+      (token (at (suc l) (k.Sign SEMICOLON) q) (r - 1) _ _ (omega arith) (λ us. refl) (here (λ us no. refl))))
   takes_statement (s.continue {l = l} {p = p} q) m f r room deep =
       enter f r (first_statement (s.continue {p = p} q)) room deep
-      (token (at (suc l) (word (codes "continue")) p) (r - 1) (opened (statement (f - 1)) (r - 1)) _ (omega arith) (λ us. refl)
-      (token (at (suc l) (sign (codes ";")) q) (r - 1) _ _ (omega arith) (λ us. refl) (here (λ us no. refl))))
+      (token (at (suc l) (word CONTINUE.now) p) (r - 1) (opened (statement (f - 1)) (r - 1)) _ (omega arith) (λ us. refl)
+      (token (at (suc l) (k.Sign SEMICOLON) q) (r - 1) _ _ (omega arith) (λ us. refl) (here (λ us no. refl))))
 
   pub takes_body : {l : ℕ} {a : List Leveled} {ss : List Stmt} → IsBody l a ss → (m f r : ℕ)
       → r ≡ m - l → r ≤ f → (q : Place) (found : List Stmt)
-      → TakesTurns m Any (a ++ at l (sign (codes "}")) q ∷ []) (λ n. turns (body_turn (statement f) r) n found) (λ us. Ok (found ++ ss, us))
+      → TakesTurns m Any (a ++ at l (k.Sign BRACE_CLOSE) q ∷ []) (λ n. turns (body_turn (statement f) r) n found) (λ us. Ok (found ++ ss, us))
   takes_body (s.none {l = l}) m f r room deep q found =
-      regather (sym (append-nil found)) (turn_last (body_turn (statement f) r) found (omega arith) (token (at l (sign (codes "}")) q) r _ _ room (λ us. refl) (here (λ us fit. refl))))
+      regather (sym (append-nil found)) (turn_last (body_turn (statement f) r) found (omega arith) (token (at l (k.Sign BRACE_CLOSE) q) r _ _ room (λ us. refl) (here (λ us fit. refl))))
   takes_body (s.stmt {open_if = open_if} {l = l} {a = a} {b = b} {s = x} {ss = ss} h i) m f r room deep q found =
-      let closed = at l (sign (codes "}")) q in
+      let closed = at l (k.Sign BRACE_CLOSE) q in
       let first = first_statement h in
       let w = statement_starts m first in
       let v = body_starts i m q in
@@ -340,8 +342,8 @@ mutual
       (read_as (λ rest ts no i. part_is f r found ts (w.start rest ts i)) (last _ (takes_statement h m f r room deep) (λ us no. no) (λ us no. refl)))
       (record { fit = λ us ts fit i yes. v.start us ts i }) (takes_body i m f r room deep q (found ++ x ∷ []))))
   takes_body (s.vars {l = l} {first = first} {a = a} {b = b} {ds = ds} {ss = ss} p h i) m f r room deep q found =
-      let closed = at l (sign (codes "}")) q in
-      let ended = at l (sign (codes ";")) p in
+      let closed = at l (k.Sign BRACE_CLOSE) q in
+      let ended = at l (k.Sign SEMICOLON) p in
       let x = stmt.Vars ds first.token.place in
       let w = starts_append (ended ∷ []) (vars_start h m) in
       regroup_turns (append_assoc (first ∷ a) (ended ∷ []) (b ++ closed ∷ []) ∙ sym (append_assoc (first ∷ a) (ended ∷ b) (closed ∷ []))) (regather (append_assoc found (x ∷ []) ss)

@@ -5,12 +5,13 @@ use Rattle.c_token.specs.declared.token.Token.{Token}
 use Rattle.c_expr.specs.declared.fault.ParseFault.{ParseFault}
 use Rattle.c_expr.specs.declared.fault.ParseFault.TheVariants.{Unexpected, TooDeep, OutOfMemory}
 use Rattle.c_expr.specs.Leveled.{Leveled, tokens_of}
-use Rattle.c_expr.specs.Next.{Outcome, Fails}
-use Rattle.c_expr.specs.Parsing.{IsEnded, IsRead}
+use Rattle.c_expr.specs.Next.{Outcome}
+use Rattle.c_expr.specs.Reads.{Fails}
+use Rattle.c_expr.specs.Parsing.{IsEnded, IsOutOfPlace, IsRead}
 use Rattle.c_expr.proofs.ExactExpressions.{limit_of, wide}
 use Rattle.c_decl.specs.Units.{IsUnit}
 use Rattle.c_decl.specs.private.UnitReading.{unit}
-use Rattle.c_decl.specs.Whole.{IsOutOfPlace, ParsedWhole}
+use Rattle.c_decl.specs.Whole.{ParsedWhole}
 use Rattle.c_decl.proofs.OneTextTree.{read_whole}
 use Rattle.c_decl.proofs.SoundWhole.{whole_of, unit_by}
 

@@ -5,7 +5,6 @@ pub mod CompleteStatements
 pub mod CompleteUnits
 pub mod PlacedItems
 pub mod OneTextTree
-pub mod EndedTokensLemmas
 pub mod SoundParts
 pub mod SoundDeclarators
 pub mod SoundDeclarations

@@ -1,41 +1,21 @@
 -- More depth than room changes nothing.
-use Rattle.std.proofs.Common.{◌≡◌, ◌<◌, ◌≤◌, ◌-◌, ℕ, zero, suc, List, [], ◌∷◌, ◌++◌, length, Option, Some, None, Bool, true, false, Ok, Err, refl, ap, ◌∙◌, arith, inl, inr, ◌⊎◌}
-use Rattle.std.specs.Prelude.{codes}
+use Rattle.std.proofs.Common.{◌≡◌, ◌<◌, ◌≤◌, ◌-◌, ℕ, zero, suc, List, [], ◌∷◌, ◌++◌, length, Option, Some, None, Bool, true, false, Ok, Err, refl, ap, ◌∙◌, arith, inl}
 use Rattle.c_tree.specs.Expr.{Expr}
 use Rattle.c_tree.specs.Stmt.{Stmt}
 use Rattle.c_tree.specs.Stmt as stmt
 use Rattle.c_tree.specs.View.{stmts_list}
 use Rattle.c_tree.specs.declared.place.Place.{Place}
 use Rattle.c_token.specs.declared.token.Token.{Token}
-use Rattle.c_expr.specs.Spelled.{sign}
 use Rattle.c_expr.specs.Next.{Outcome, ◌>>=◌, kind_of, is_base, take, expect}
-use Rattle.c_expr.specs.private.ExpressionReading.{turn, turns}
+use Rattle.c_expr.proofs.Depth.{bind_same, both_same, turns_same}
 use Rattle.c_decl.specs.GrammarWords.{word}
 use Rattle.c_decl.specs.private.DeclarationReading.{is_next}
 use Rattle.c_decl.specs.private.StatementReading.{opening_of, fault_at_statement, test, optional, beginning, else_part_by, else_part, if_stmt, while_stmt, do_stmt, for_stmt, part_by, body_turn_by, body_turn, body, block, opened_by, opened, statement, stated}
 use Rattle.c_decl.specs.declared.opening.Opening.{Opening}
 use Rattle.c_decl.specs.declared.opening.Opening.TheVariants as o
-
-bind_same : {X Y : Type 0} (o : Outcome X) (f g : X × List Token → Outcome Y)
-    → ((x : X × List Token) → f x ≡ g x) → (o >>= f) ≡ (o >>= g)
-bind_same (Ok x) f g h = h x
-bind_same (Err e) f g h = refl
-
-both_same : {X Y : Type 0} {o p : Outcome X} (f g : X × List Token → Outcome Y) → o ≡ p
-    → ((x : X × List Token) → f x ≡ g x) → (o >>= f) ≡ (p >>= g)
-both_same {o = o} f g e h = bind_same o f g h ∙ ap (λ o. o >>= g) e
-
-turn_same : {A B : Type 0} (f g : A → List Token → Outcome B)
-    → ((x : A) (ts : List Token) → f x ts ≡ g x ts) → (z : (A ⊎ B) × List Token)
-    → turn f z ≡ turn g z
-turn_same f g h (inl x, ts) = h x ts
-turn_same f g h (inr y, ts) = refl
-
-turns_same : {A B : Type 0} (step step' : A → List Token → Outcome (A ⊎ B))
-    → ((x : A) (ts : List Token) → step x ts ≡ step' x ts) → (n : ℕ) (x : A) (ts : List Token)
-    → turns step n x ts ≡ turns step' n x ts
-turns_same step step' h zero x ts = refl
-turns_same step step' h (suc n) x ts = both_same (turn (turns step n)) (turn (turns step' n)) (h x ts) (turn_same (turns step n) (turns step' n) (turns_same step step' h n))
+use Rattle.c_expr.specs.declared.punctuator.TheConstants.{PARENTHESIS_OPEN, PARENTHESIS_CLOSE, BRACE_CLOSE, SEMICOLON}
+use Rattle.c_token.specs.declared.token.Kind.TheVariants as k
+use Rattle.c_decl.specs.declared.reserved.TheConstants.{ELSE, WHILE}
 
 module _ (p q : ℕ → List Token → Outcome Stmt) (top : ℕ) (like : (r : ℕ) (ts : List Token) → r ≤ top → p r ts ≡ q r ts) where
   else_same : (here : Bool) (x : Expr) (s : Stmt) (place : Place) (r : ℕ) (ts : List Token)
@@ -45,19 +25,19 @@ module _ (p q : ℕ → List Token → Outcome Stmt) (top : ℕ) (like : (r : �
 
   if_same : (r : ℕ) (ts : List Token) → r ≤ top → if_stmt p r ts ≡ if_stmt q r ts
   if_same r ts low = bind_same (take r ts) _ _ (λ u. bind_same (test r u.1) _ _ (λ x.
-      both_same (λ s. else_part p x.0 s.0 u.0.place r s.1) (λ s. else_part q x.0 s.0 u.0.place r s.1) (like r x.1 low) (λ s. else_same (is_next (word (codes "else")) s.1) x.0 s.0 u.0.place r s.1 low)))
+      both_same (λ s. else_part p x.0 s.0 u.0.place r s.1) (λ s. else_part q x.0 s.0 u.0.place r s.1) (like r x.1 low) (λ s. else_same (is_next (word ELSE.now) s.1) x.0 s.0 u.0.place r s.1 low)))
 
   while_same : (r : ℕ) (ts : List Token) → r ≤ top → while_stmt p r ts ≡ while_stmt q r ts
   while_same r ts low = bind_same (take r ts) _ _ (λ u. bind_same (test r u.1) _ _ (λ x. ap (λ o. o >>= λ s. Ok (stmt.While x.0 s.0 u.0.place, s.1)) (like r x.1 low)))
 
   do_same : (r : ℕ) (ts : List Token) → r ≤ top → do_stmt p r ts ≡ do_stmt q r ts
   do_same r ts low = bind_same (take r ts) _ _ (λ u. ap
-      (λ o. o >>= λ s. expect (word (codes "while")) r s.1 >>= λ w. test r w.1 >>= λ x. expect (sign (codes ";")) r x.1 >>= λ e. Ok (stmt.Do s.0 x.0 u.0.place, e.1))
+      (λ o. o >>= λ s. expect (word WHILE.now) r s.1 >>= λ w. test r w.1 >>= λ x. expect (k.Sign SEMICOLON) r x.1 >>= λ e. Ok (stmt.Do s.0 x.0 u.0.place, e.1))
       (like r u.1 low))
 
   for_same : (r : ℕ) (ts : List Token) → r ≤ top → for_stmt p r ts ≡ for_stmt q r ts
-  for_same r ts low = bind_same (take r ts) _ _ (λ u. bind_same (expect (sign (codes "(")) r u.1) _ _ (λ b. bind_same (beginning r b.1) _ _ (λ f.
-      bind_same (optional (sign (codes ";")) r f.1) _ _ (λ x. bind_same (optional (sign (codes ")")) r x.1) _ _ (λ y.
+  for_same r ts low = bind_same (take r ts) _ _ (λ u. bind_same (expect (k.Sign PARENTHESIS_OPEN) r u.1) _ _ (λ b. bind_same (beginning r b.1) _ _ (λ f.
+      bind_same (optional (k.Sign SEMICOLON) r f.1) _ _ (λ x. bind_same (optional (k.Sign PARENTHESIS_CLOSE) r x.1) _ _ (λ y.
       ap (λ o. o >>= λ s. Ok (stmt.For f.0 x.0 y.0 s.0 u.0.place, s.1)) (like r y.1 low))))))
 
   part_same : (declares : Bool) (r : ℕ) (ts : List Token) → r ≤ top
@@ -71,7 +51,7 @@ module _ (p q : ℕ → List Token → Outcome Stmt) (top : ℕ) (like : (r : �
   turn_of_body_same false r found ts low = ap (λ o. o >>= λ s. Ok (inl (found ++ s.0 ∷ []), s.1)) (part_same (is_base (kind_of ts)) r ts low)
 
   pub body_same : (r : ℕ) (ts : List Token) → r ≤ top → body p r ts ≡ body q r ts
-  body_same r ts low = turns_same (body_turn p r) (body_turn q r) (λ found us. turn_of_body_same (is_next (sign (codes "}")) us) r found us low) (length ts) [] ts
+  body_same r ts low = turns_same (body_turn p r) (body_turn q r) (λ found us. turn_of_body_same (is_next (k.Sign BRACE_CLOSE) us) r found us low) (length ts) [] ts
 
   block_same : (r : ℕ) (ts : List Token) → r ≤ top → block p r ts ≡ block q r ts
   block_same r ts low = bind_same (take r ts) _ _ (λ u. ap (λ o. o >>= λ ss. Ok (stmt.Block (stmts_list ss.0) u.0.place, ss.1)) (body_same r u.1 low))

@@ -1,6 +1,5 @@
 -- A text has one tree, and at most one answer fits.
 use Rattle.std.proofs.Common.{◌≡◌, ◌+◌, List, [], ◌∷◌, ◌++◌, Result, Ok, Err, refl, ap}
-use Rattle.c_tree.specs.declared.place.Place.{Place}
 use Rattle.c_tree.specs.Item.{Item}
 use Rattle.c_token.specs.declared.token.Token.{Token}
 use Rattle.c_expr.specs.declared.fault.ParseFault.{ParseFault}
@@ -9,10 +8,10 @@ use Rattle.c_expr.specs.Leveled.{Leveled, tokens_of}
 use Rattle.c_expr.specs.Parsing.{Agrees}
 use Rattle.c_expr.proofs.ExactExpressions.{limit_of, below_limit}
 use Rattle.c_expr.proofs.Single as single
-use Rattle.c_expr.proofs.Single.{Reader, Stops}
+use Rattle.c_expr.proofs.Single.{Reader}
 use Rattle.c_decl.specs.Units.{IsUnit}
 use Rattle.c_decl.specs.private.UnitReading.{unit}
-use Rattle.c_decl.specs.Whole.{IsOutOfPlace, ParsedWhole}
+use Rattle.c_decl.specs.Whole.{ParsedWhole}
 use Rattle.c_decl.proofs.CompleteUnits.{complete_unit}
 use Rattle.c_decl.proofs.PlacedItems.{placed_unit}
 
@@ -28,35 +27,21 @@ pub one_tree : (a b : List Leveled) (xs ys : List Item) → IsUnit a xs → IsUn
     → tokens_of a ≡ tokens_of b → xs ≡ ys
 one_tree = single.one_tree IsUnit reader
 
-abbrev stops : {ts : List Token} {p : Place} → IsOutOfPlace IsUnit ts p → Stops IsUnit ts p
-stops h = record {
-  read = h.read;
-  next = h.next;
-  rest = h.rest;
-  splits = h.splits;
-  is_at = h.is_at;
-  low = h.low;
-  more = h.more;
-  tree = h.tree;
-  begins = h.begins;
-  no_further = h.no_further;
-}
-
 none_left : (t : Token) (ts : List Token) → [] ≡ t ∷ ts → ⊥
 none_left t ts e = cc
 
 pub one_answer : (ts : List Token) (o q : Result (List Item) ParseFault) → ParsedWhole IsUnit ts o
     → ParsedWhole IsUnit ts q → Agrees o q
 one_answer ts (Ok xs) (Ok ys) h i = ap (λ (r : List Item × List Token). Ok r.0) (single.read_read IsUnit reader ts [] [] xs ys h i)
-one_answer ts (Ok xs) (Err (Unexpected p)) h i = absurd (single.read_stops IsUnit reader ts [] xs p h (stops i) (λ e f. none_left i.next i.rest f))
+one_answer ts (Ok xs) (Err (Unexpected p)) h i = absurd (single.read_stops IsUnit reader ts [] xs p h i (λ e f. none_left i.next i.rest f))
 one_answer ts (Ok xs) (Err (TooDeep p)) h i = absurd (single.read_deep IsUnit reader ts [] xs p h i)
 one_answer ts (Ok xs) (Err OutOfMemory) h i = tt
-one_answer ts (Err (Unexpected p)) (Ok xs) h i = absurd (single.read_stops IsUnit reader ts [] xs p i (stops h) (λ e f. none_left h.next h.rest f))
-one_answer ts (Err (Unexpected p)) (Err (Unexpected q)) h i = ap (λ p. Err (Unexpected p)) (single.stops_stops IsUnit reader ts p q (stops h) (stops i))
-one_answer ts (Err (Unexpected p)) (Err (TooDeep q)) h i = absurd (single.stops_deep IsUnit reader ts p q (stops h) i)
+one_answer ts (Err (Unexpected p)) (Ok xs) h i = absurd (single.read_stops IsUnit reader ts [] xs p i h (λ e f. none_left h.next h.rest f))
+one_answer ts (Err (Unexpected p)) (Err (Unexpected q)) h i = ap (λ p. Err (Unexpected p)) (single.stops_stops IsUnit reader ts p q h i)
+one_answer ts (Err (Unexpected p)) (Err (TooDeep q)) h i = absurd (single.stops_deep IsUnit reader ts p q h i)
 one_answer ts (Err (Unexpected p)) (Err OutOfMemory) h i = tt
 one_answer ts (Err (TooDeep p)) (Ok xs) h i = absurd (single.read_deep IsUnit reader ts [] xs p i h)
-one_answer ts (Err (TooDeep p)) (Err (Unexpected q)) h i = absurd (single.stops_deep IsUnit reader ts q p (stops i) h)
+one_answer ts (Err (TooDeep p)) (Err (Unexpected q)) h i = absurd (single.stops_deep IsUnit reader ts q p i h)
 one_answer ts (Err (TooDeep p)) (Err (TooDeep q)) h i = ap (λ p. Err (TooDeep p)) (single.deep_deep IsUnit reader ts p q h i)
 one_answer ts (Err (TooDeep p)) (Err OutOfMemory) h i = tt
 one_answer ts (Err OutOfMemory) q h i = tt

@@ -1,13 +1,11 @@
 -- The law of each form of statement, by the law of the statements in it (C11 6.8).
 use Rattle.std.proofs.Common.{◌≡◌, ◌<◌, ◌≤◌, ◌+◌, ◌-◌, ℕ, List, [], ◌∷◌, ◌++◌, length, Ok, refl, sym, ap, ◌∙◌, subst, arith, append_assoc, append-nil, inl, inr, Bool, true, false}
-use Rattle.std.specs.Prelude.{codes}
 use Rattle.c_token.specs.declared.token.Token.{Token}
 use Rattle.c_tree.specs.declared.place.Place.{Place}
 use Rattle.c_tree.specs.Var.{Var}
 use Rattle.c_tree.specs.Stmt.{Stmt}
 use Rattle.c_tree.specs.Stmt as the_stmt
 use Rattle.c_expr.specs.Leveled.{Leveled, at}
-use Rattle.c_expr.specs.Spelled.{sign}
 use Rattle.c_expr.specs.Next.{◌>>=◌, kind_of, place_of, nowhere, refuse, is_base}
 use Rattle.c_expr.proofs.Law.{Lawful, bind_law, weaken, pure_law, ended, place_law, plain}
 use Rattle.c_expr.proofs.ParserTurns.{Turn}
@@ -21,12 +19,15 @@ use Rattle.c_decl.proofs.SoundDeclarations.{VarsThrough, vars as through}
 use Rattle.c_decl.proofs.SoundDeclarators.{moved}
 use Rattle.c_decl.proofs.SoundHeads.{vars_some, vars_at}
 use Rattle.c_decl.proofs.SoundRefused.{statement_refuses}
+use Rattle.c_expr.specs.declared.punctuator.TheConstants.{BRACE_CLOSE, SEMICOLON}
+use Rattle.c_token.specs.declared.token.Kind.TheVariants as k
+use Rattle.c_decl.specs.declared.reserved.TheConstants.{ELSE}
 
 -- a statement that was read before the rest
 pub record ReadStatement (l : ℕ) (a : List Leveled) (s : Stmt) (rest : List Token) : Type 0 where
   pub open_if : Bool
   pub spelled : IsStatement open_if l a s
-  pub no_else : kind_of rest ≡ word (codes "else") → open_if ≡ false
+  pub no_else : kind_of rest ≡ word ELSE.now → open_if ≡ false
 
 pub closed : {l : ℕ} {a : List Leveled} {s : Stmt} (rest : List Token) → IsStatement false l a s
     → ReadStatement l a s rest
@@ -53,17 +54,17 @@ data IsPart (l : ℕ) : List Leveled → Stmt → List Token → Type 0 where
       → IsPart l a s rest
   declared : {first : Leveled} {a : List Leveled} {ds : List Var} {rest : List Token} (q : Place)
       → IsVars l (first ∷ a) ds
-      → IsPart l (first ∷ (a ++ at l (sign (codes ";")) q ∷ []))
+      → IsPart l (first ∷ (a ++ at l (k.Sign SEMICOLON) q ∷ []))
       (the_stmt.Vars ds first.token.place) rest
 
 declared_part : (l : ℕ) (place : Place) (a : List Leveled) (ds : List Var) (rest : List Token)
     → VarsThrough l a ds → FirstAt place a → IsPart l a (the_stmt.Vars ds place) rest
 declared_part l place _ ds rest (through {a = a} q h) first = go a h first
   where
-    go : (a : List Leveled) → IsVars l a ds → FirstAt place (a ++ at l (sign (codes ";")) q ∷ [])
-        → IsPart l (a ++ at l (sign (codes ";")) q ∷ []) (the_stmt.Vars ds place) rest
+    go : (a : List Leveled) → IsVars l a ds → FirstAt place (a ++ at l (k.Sign SEMICOLON) q ∷ [])
+        → IsPart l (a ++ at l (k.Sign SEMICOLON) q ∷ []) (the_stmt.Vars ds place) rest
     go [] h first = absurd (let some = vars_some h in omega arith)
-    go (x ∷ a) h first = subst (λ p. IsPart l (x ∷ (a ++ at l (sign (codes ";")) q ∷ [])) (the_stmt.Vars ds p) rest) first (declared q h)
+    go (x ∷ a) h first = subst (λ p. IsPart l (x ∷ (a ++ at l (k.Sign SEMICOLON) q ∷ [])) (the_stmt.Vars ds p) rest) first (declared q h)
 
 part_some : {l : ℕ} {a : List Leveled} {s : Stmt} {rest : List Token} → IsPart l a s rest
     → 0 < length a
@@ -73,19 +74,19 @@ part_some (declared q h) = omega arith
 -- what is left of a block, with the closing brace
 pub data BodyLeft (l : ℕ) (found : List Stmt) : List Leveled → List Stmt → Type 0 where
   left : {c : List Leveled} {ss : List Stmt} (q : Place) → IsBody l c ss
-      → BodyLeft l found (c ++ at l (sign (codes "}")) q ∷ []) (found ++ ss)
+      → BodyLeft l found (c ++ at l (k.Sign BRACE_CLOSE) q ∷ []) (found ++ ss)
 
 one_more : (l : ℕ) (a c : List Leveled) (s : Stmt) (ss : List Stmt) (rest : List Token)
     → IsPart l a s rest → IsBody l c ss → IsBody l (a ++ c) (s ∷ ss)
 one_more l _ c s ss rest (stmt h) i = g.stmt h.spelled i
 one_more l _ c _ ss rest (declared {first = first} {a = a} {ds = ds} q h) i =
-    subst (λ b. IsBody l (first ∷ b) (the_stmt.Vars ds first.token.place ∷ ss)) (sym (append_assoc a (at l (sign (codes ";")) q ∷ []) c)) (g.vars q h i)
+    subst (λ b. IsBody l (first ∷ b) (the_stmt.Vars ds first.token.place ∷ ss)) (sym (append_assoc a (at l (k.Sign SEMICOLON) q ∷ []) c)) (g.vars q h i)
 
 part_goes : (l : ℕ) (found : List Stmt) (a c : List Leveled) (s : Stmt) (ss : List Stmt)
     (rest : List Token) → IsPart l a s rest → BodyLeft l (found ++ s ∷ []) c ss
     → BodyLeft l found ((a ++ []) ++ c) ss
 part_goes l found a _ s _ rest h (left {c = c} {ss = ss} q i) =
-    moved (BodyLeft l found) found s ss (append_assoc a c (at l (sign (codes "}")) q ∷ []) ∙ ap (λ b. b ++ (c ++ at l (sign (codes "}")) q ∷ [])) (sym (append-nil a))) (left q (one_more l a c s ss rest h i))
+    moved (BodyLeft l found) found s ss (append_assoc a c (at l (k.Sign BRACE_CLOSE) q ∷ []) ∙ ap (λ b. b ++ (c ++ at l (k.Sign BRACE_CLOSE) q ∷ [])) (sym (append-nil a))) (left q (one_more l a c s ss rest h i))
 
 -- what holds of statements, with this depth in both, or with more in one
 abbrev pub StatementLaw : (I : Type 0) → ℕ → ℕ → (I → ℕ) → Type 0
@@ -118,8 +119,8 @@ body_turn_law : (I : Type 0) (m f : ℕ) (f' : I → ℕ) → StatementLaw I m f
     → Wide f' r r'
     → Lawful m (Turn (λ found. plain (BodyLeft l found)) found) (λ i. body_turn (statement (f' i)) (r' i) found) ts (body_turn (statement f) r found ts)
 body_turn_law I m f f' statements l r r' found ts room deep wide =
-    choose_taken (λ i c b. body_turn_by (statement (f' i)) c (r' i) found b) (λ c. body_turn_by (statement f) c r found ts) (λ i u. Ok (inr found, u.1)) (λ u. Ok (inr found, u.1)) m l r r' (sign (codes "}")) ts room (λ i. (wide i).0) (refl, refl) (λ i b. refl) refl
-    (λ p rest. pure_law (inr found) rest (subst (λ ss. BodyLeft l found (at l (sign (codes "}")) p ∷ []) ss) (append-nil found) (left p g.none)))
+    choose_taken (λ i c b. body_turn_by (statement (f' i)) c (r' i) found b) (λ c. body_turn_by (statement f) c r found ts) (λ i u. Ok (inr found, u.1)) (λ u. Ok (inr found, u.1)) m l r r' (k.Sign BRACE_CLOSE) ts room (λ i. (wide i).0) (refl, refl) (λ i b. refl) refl
+    (λ p rest. pure_law (inr found) rest (subst (λ ss. BodyLeft l found (at l (k.Sign BRACE_CLOSE) p ∷ []) ss) (append-nil found) (left p g.none)))
     (λ other. bind_law (λ i s. Ok (inl (found ++ s.0 ∷ []), s.1)) (λ s. Ok (inl (found ++ s.0 ∷ []), s.1)) (part_law I m f f' statements l r r' ts room deep wide) (λ s rest a h cut.
     pure_law (inl (found ++ s ∷ [])) rest (subst (λ c. 0 < length c) (sym (append-nil a)) (part_some h), λ c ss vs i. part_goes l found a c s ss rest h i)))
 

@@ -1,6 +1,5 @@
 -- The law of what a statement has beside its statements: expressions, tests, and what a `for` begins with.
 use Rattle.std.proofs.Common.{◌≡◌, ◌<◌, ◌≤◌, ◌-◌, ℕ, suc, List, [], ◌∷◌, ◌++◌, length, Option, Some, None, Ok, refl, sym, ap, ◌∙◌, arith, length-append, Bool, true, false}
-use Rattle.std.specs.Prelude.{codes}
 use Rattle.c_token.specs.declared.token.Token.{Token}
 use Rattle.c_token.specs.declared.token.Kind.{Kind}
 use Rattle.c_token.specs.declared.token.Kind.TheVariants as k
@@ -11,7 +10,6 @@ use Rattle.c_tree.specs.First.{First}
 use Rattle.c_tree.specs.First as for_first
 use Rattle.c_expr.specs.private.ParserRules.{Assign}
 use Rattle.c_expr.specs.Leveled.{Leveled, at}
-use Rattle.c_expr.specs.Spelled.{sign}
 use Rattle.c_expr.specs.Grammar as e
 use Rattle.c_expr.specs.Grammar.{IsBase, IsAssign}
 use Rattle.c_expr.specs.Next.{◌>>=◌, kind_of, place_of, nowhere, refuse, expect, is_base}
@@ -29,6 +27,7 @@ use Rattle.c_decl.specs.private.DeclarationReading.{vars as vars_reader}
 use Rattle.c_decl.specs.private.StatementReading.{optional_by, optional as optional_reader, beginning_by, beginning as beginning_reader, test as test_reader}
 use Rattle.c_decl.proofs.SoundParts.{Sound, ruled_sound, chosen, choose_by, FirstAt, front_law, base_some}
 use Rattle.c_decl.proofs.SoundDeclarations.{VarsThrough, vars as through, vars_law}
+use Rattle.c_expr.specs.declared.punctuator.TheConstants.{PARENTHESIS_OPEN, PARENTHESIS_CLOSE, SEMICOLON}
 
 -- what is spelled has a token
 pub assign_some : {l : ℕ} {a : List Leveled} {x : Expr} → IsAssign l a x → 0 < length a
@@ -38,7 +37,7 @@ pub vars_some : {l : ℕ} {a : List Leveled} {ds : List Var} → IsVars l a ds �
 vars_some (d.vars {a = a} {b = b} h i) = let some = base_some h in omega (arith, length-append a b)
 
 through_some : {l : ℕ} {a : List Leveled} {ds : List Var} → VarsThrough l a ds → 0 < length a
-through_some (through {a = a} q h) = longer a (at _ (sign (codes ";")) q)
+through_some (through {a = a} q h) = longer a (at _ (k.Sign SEMICOLON) q)
 
 -- something that is so spelled, from any place
 pub assign_from : (l : ℕ) (p : Place) → Some_of (λ a x us. IsAssign l a x × FirstAt p a)
@@ -73,7 +72,7 @@ optional_law I m closer known l r r' ts room wide = chosen (λ s c b. optional_b
 -- what a `for` begins with, and its semicolon
 pub data BeginningThrough (l : ℕ) : List Leveled → First → Type 0 where
   beginning : {a : List Leveled} {x : First} (q : Place) → IsBeginning l a x
-      → BeginningThrough l (a ++ at l (sign (codes ";")) q ∷ []) x
+      → BeginningThrough l (a ++ at l (k.Sign SEMICOLON) q ∷ []) x
 
 declared_first : (l : ℕ) (a : List Leveled) (ds : List Var) → VarsThrough l a ds
     → BeginningThrough l a (for_first.Vars ds)
@@ -84,11 +83,11 @@ assign_refused r = refuses r Assign r [] refl
 
 beginning_ends : (r : ℕ) (c : Bool) → beginning_by false c r [] ≡ refuse []
 beginning_ends r true = refl
-beginning_ends r false = ap (λ o. o >>= λ x. expect (sign (codes ";")) r x.1 >>= λ c. Ok (for_first.Expr x.0, c.1)) (assign_refused r)
+beginning_ends r false = ap (λ o. o >>= λ x. expect (k.Sign SEMICOLON) r x.1 >>= λ c. Ok (for_first.Expr x.0, c.1)) (assign_refused r)
 
 pub beginning_law : (I : Type 0) (m : ℕ)
     → Sound I m (λ l. plain (BeginningThrough l)) beginning_reader
-beginning_law I m l r r' ts room wide = chosen (λ s c b. beginning_by c (is_base (kind_of b)) s b) _ m l r r' (sign (codes ";")) ts room wide (refl, refl) (λ s b. refl) (λ q rest. pure_law for_first.Nothing rest (beginning q g.nothing))
+beginning_law I m l r r' ts room wide = chosen (λ s c b. beginning_by c (is_base (kind_of b)) s b) _ m l r r' (k.Sign SEMICOLON) ts room wide (refl, refl) (λ s b. refl) (λ q rest. pure_law for_first.Nothing rest (beginning q g.nothing))
     (λ other. choose_by is_base (λ i c b. beginning_by false c (r' i) b) (λ c. beginning_by false c r ts) ts (λ i c. beginning_ends (r' i) false ∙ sym (beginning_ends (r' i) c)) go)
   where
     go : (c : Bool) → is_base (kind_of ts) ≡ c
@@ -96,15 +95,15 @@ beginning_law I m l r r' ts room wide = chosen (λ s c b. beginning_by c (is_bas
         (beginning_by false c r ts)
     go true is = bind_law _ _ (vars_law I m l r r' ts room wide) (λ ds us a h cut. pure_law (for_first.Vars ds) us (ended (BeginningThrough l) (declared_first l a ds h)))
     go false is = bind_law _ _ (ruled_sound I m Assign l r r' ts room wide) (λ x us a h cut.
-        expect_law (λ i c. Ok (for_first.Expr x, c.1)) (λ c. Ok (for_first.Expr x, c.1)) m l r r' (sign (codes ";")) us room wide (refl, refl) (λ q vs. pure_law (for_first.Expr x) vs (beginning q (g.assign h))))
+        expect_law (λ i c. Ok (for_first.Expr x, c.1)) (λ c. Ok (for_first.Expr x, c.1)) m l r r' (k.Sign SEMICOLON) us room wide (refl, refl) (λ q vs. pure_law (for_first.Expr x) vs (beginning q (g.assign h))))
 
 -- an expression in parentheses
 pub data IsTest (l : ℕ) : List Leveled → Expr → Type 0 where
   test : {a : List Leveled} {x : Expr} (q r : Place) → IsAssign l a x
-      → IsTest l (at l (sign (codes "(")) q ∷ (a ++ at l (sign (codes ")")) r ∷ [])) x
+      → IsTest l (at l (k.Sign PARENTHESIS_OPEN) q ∷ (a ++ at l (k.Sign PARENTHESIS_CLOSE) r ∷ [])) x
 
 pub test_law : (I : Type 0) (m : ℕ) → Sound I m (λ l. plain (IsTest l)) test_reader
 test_law I m l r r' ts room wide =
-    expect_law _ _ m l r r' (sign (codes "(")) ts room wide (refl, refl) (λ q us.
+    expect_law _ _ m l r r' (k.Sign PARENTHESIS_OPEN) ts room wide (refl, refl) (λ q us.
     bind_law _ _ (ruled_sound I m Assign l r r' us room wide) (λ x vs a h cut.
-    expect_law (λ i c. Ok (x, c.1)) (λ c. Ok (x, c.1)) m l r r' (sign (codes ")")) vs room wide (refl, refl) (λ t ws. pure_law x ws (test q t h))))
+    expect_law (λ i c. Ok (x, c.1)) (λ c. Ok (x, c.1)) m l r r' (k.Sign PARENTHESIS_CLOSE) vs room wide (refl, refl) (λ t ws. pure_law x ws (test q t h))))

@@ -1,6 +1,6 @@
 -- The law of statements, at every depth.
-use Rattle.std.proofs.Common.{◌≡◌, ◌<◌, ◌≤◌, ◌-◌, ℕ, zero, suc, List, [], ◌∷◌, Option, Some, None, Err, refl, sym, ap, ◌∙◌, subst, arith, Bool, true, false}
-use Rattle.std.specs.Prelude.{if◌then◌else◌, codes}
+use Rattle.std.proofs.Common.{◌≡◌, ◌<◌, ◌≤◌, ◌-◌, ℕ, zero, suc, List, [], ◌∷◌, Option, Some, None, Err, refl, ap, ◌∙◌, subst, arith, Bool, true, false}
+use Rattle.std.specs.Prelude.{if◌then◌else◌}
 use Rattle.c_token.specs.declared.token.Token.{Token}
 use Rattle.c_token.specs.declared.token.Kind.{Kind}
 use Rattle.c_tree.specs.declared.place.Place.{Place}
@@ -8,10 +8,9 @@ use Rattle.c_tree.specs.Stmt.{Stmt}
 use Rattle.c_tree.specs.Stmt as stmt
 use Rattle.c_expr.specs.declared.fault.ParseFault.TheVariants.{Unexpected, TooDeep}
 use Rattle.c_expr.specs.Leveled.{Leveled, at}
-use Rattle.c_expr.specs.Spelled.{sign}
 use Rattle.c_expr.specs.Next.{kind_of, place_of, nowhere, begins}
 use Rattle.c_expr.proofs.Binds.{found}
-use Rattle.c_expr.proofs.Law.{Lawful, Some_of, Looks, weaken}
+use Rattle.c_expr.proofs.Law.{Lawful, Some_of, weaken, unopened_law}
 use Rattle.c_expr.proofs.ExpressionFronts.{begin_unary, unary_assign, some_assign, narrow_both}
 use Rattle.c_decl.specs.GrammarWords.{word}
 use Rattle.c_decl.specs.StatementGrammar as g
@@ -22,6 +21,9 @@ use Rattle.c_decl.proofs.SoundMarkers.{begin_numbered, begin_post}
 use Rattle.c_decl.proofs.SoundRefused.{statement_refuses}
 use Rattle.c_decl.proofs.SoundForms.{ReadStatement, closed, StatementLaw}
 use Rattle.c_decl.proofs.SoundStatements.{opened_law}
+use Rattle.c_expr.specs.declared.punctuator.TheConstants.{SEMICOLON}
+use Rattle.c_token.specs.declared.token.Kind.TheVariants as k
+use Rattle.c_decl.specs.declared.reserved.TheConstants.{BEGIN_PPR, END_PPR, WAIT}
 
 -- a statement begins with a token of this kind, above the level of what is open outside
 abbrev Begun : ℕ → Place → Kind → Type 0
@@ -39,7 +41,7 @@ begin_opening : (l : ℕ) (p : Place) (kind : Kind) (which : Opening) → openin
     → Begun l p kind
 begin_opening l p kind which e =
     let some = (some_assign (suc l)).holds in
-    let body : IsStatement false (suc l) (at (suc (suc l)) (sign (codes ";")) nowhere ∷ []) (stmt.Empty nowhere) = g.empty in
+    let body : IsStatement false (suc l) (at (suc (suc l)) (k.Sign SEMICOLON) nowhere ∷ []) (stmt.Empty nowhere) = g.empty in
     let empty = begun l p _ _ _ (g.empty {l = l} {p = p}) in
     let block = begun l p _ _ _ (g.block (g.braces {l = suc l} p nowhere g.none)) in
     let branch = begun l p _ _ _ (g.if nowhere nowhere some body) in
@@ -49,9 +51,9 @@ begin_opening l p kind which e =
     let returned = begun l p _ _ _ (g.return {l = l} {p = p} nowhere g.none) in
     let broken = begun l p _ _ _ (g.break {l = l} {p = p} nowhere) in
     let going_on = begun l p _ _ _ (g.continue {l = l} {p = p} nowhere) in
-    let begins = marked l p _ (begin_numbered (suc l) p (word (codes "BeginPPR")) _ refl) in
-    let ends = marked l p _ (begin_numbered (suc l) p (word (codes "EndPPR")) _ refl) in
-    let waits = marked l p _ (begin_numbered (suc l) p (word (codes "Wait")) _ refl) in
+    let begins = marked l p _ (begin_numbered (suc l) p (word BEGIN_PPR.now) _ refl) in
+    let ends = marked l p _ (begin_numbered (suc l) p (word END_PPR.now) _ refl) in
+    let waits = marked l p _ (begin_numbered (suc l) p (word WAIT.now) _ refl) in
     let posts = marked l p _ (begin_post (suc l) p) in
     found (λ kind which. Begun l p kind) openings kind which (empty, (block, (branch, (loop, (once, (from, (returned, (broken, (going_on, (begins, (ends, (waits, (posts, tt))))))))))))) e
 
@@ -69,31 +71,8 @@ begin_statement l p kind e = go (opening_of kind) refl e
 start_law : (I : Type 0) (m : ℕ) (f' : I → ℕ) (l : ℕ) (r' : I → ℕ) (ts : List Token) (b : Bool)
     → begins_statement (kind_of ts) ≡ b → 0 ≡ m - l
     → Lawful m (ReadStatement l) (λ i. statement (f' i) (r' i)) ts (Err (if b then TooDeep (place_of ts) else Unexpected (place_of ts)))
-start_law I m f' l r' [] true e room = absurd (let e' : false ≡ true = e in cc)
-start_law I m f' l r' (t ∷ ts) true e room =
-    let w = begin_statement l t.place t.kind e in
-    record {
-      law = record {
-        read = [];
-        high = at w.0 t.kind t.place;
-        rest = ts;
-        splits = refl;
-        place = refl;
-        low = tt;
-        is_high = let less = w.1 in omega arith;
-        more = w.2.spelling;
-        value = w.2.value;
-        holds = w.2.holds;
-      };
-    }
-start_law I m f' l r' ts false e room =
-    record { law = record { read = []; rest = ts; splits = refl; place = refl; low = tt; more = _; value = _; holds = closed {l = l} [] (g.empty {p = nowhere}); again = λ i. go i ts e } }
-  where
-    go : (i : I) (ts : List Token) → begins_statement (kind_of ts) ≡ false → (b : List Token)
-        → Looks ts b → statement (f' i) (r' i) b ≡ Err (Unexpected (place_of b))
-    go i ts e [] l = statement_refuses (f' i) (r' i) [] refl
-    go i [] e (y ∷ b) l = absurd l
-    go i (t ∷ ts) e (y ∷ b) l = statement_refuses (f' i) (r' i) (y ∷ b) (ap (λ (u : Token). begins_statement u.kind) (sym l) ∙ e)
+start_law I m f' l r' ts b e room =
+    unopened_law (λ i. statement (f' i) (r' i)) begins_statement l ts b e refl room (begin_statement l) (record { spelling = _; value = _; holds = closed {l = l} [] (g.empty {p = nowhere}) }) (λ i b no. statement_refuses (f' i) (r' i) b no)
 
 abbrev Nested : (I : Type 0) → ℕ → (I → ℕ) → Type 0
 Nested I f f' = (m : ℕ) → StatementLaw I m f f'

@@ -1,6 +1,5 @@
 -- The law of parameters (C11 6.7.6.3), through their closing parenthesis.
 use Rattle.std.proofs.Common.{◌≡◌, ◌≤◌, ◌+◌, ◌-◌, ℕ, zero, suc, List, [], ◌∷◌, ◌++◌, Option, Some, None, Ok, refl, sym, subst, arith, append-nil, inl, inr, Bool, true, false}
-use Rattle.std.specs.Prelude.{codes}
 use Rattle.c_token.specs.declared.token.Token.{Token}
 use Rattle.c_token.specs.declared.token.Kind.{Kind}
 use Rattle.c_token.specs.declared.token.Kind.TheVariants as k
@@ -8,7 +7,6 @@ use Rattle.c_tree.specs.declared.place.Place.{Place}
 use Rattle.c_tree.specs.Ty.{Ty}
 use Rattle.c_tree.specs.Fun.{Param}
 use Rattle.c_expr.specs.Leveled.{Leveled, at}
-use Rattle.c_expr.specs.Spelled.{sign}
 use Rattle.c_expr.specs.Grammar as e
 use Rattle.c_expr.specs.Grammar.{IsBase}
 use Rattle.c_expr.specs.Next.{◌>>=◌, kind_of, place_of, nowhere, base}
@@ -19,22 +17,25 @@ use Rattle.c_expr.proofs.ExpressionFronts.{expect_law, base_law}
 use Rattle.c_decl.specs.GrammarWords.{word}
 use Rattle.c_decl.specs.Declarations as g
 use Rattle.c_decl.specs.Declarations.{IsStars, IsParam, IsParamList, IsParams}
-use Rattle.c_decl.specs.private.DeclarationReading.{is_next, stars_from, brackets_by, brackets, own_name_by, own_name, behind_stars, parameter, after_parameter, parameter_turn, parameter_list, parameters_by, parameters}
+use Rattle.c_expr.specs.private.ExpressionReading.{after_element}
+use Rattle.c_decl.specs.private.DeclarationReading.{is_next, stars_from, brackets_by, brackets, own_name_by, own_name, behind_stars, parameter, parameter_turn, parameter_list, parameters_by, parameters}
 use Rattle.c_decl.proofs.SoundParts.{Sound, chosen, turned, FirstAt, front_law, base_some}
 use Rattle.c_decl.proofs.SoundDeclarators.{moved, grouped_item, stars_law}
+use Rattle.c_expr.specs.declared.punctuator.TheConstants.{PARENTHESIS_CLOSE, BRACKET_OPEN, BRACKET_CLOSE, COMMA}
+use Rattle.c_decl.specs.declared.reserved.TheConstants.{VOID}
 
 -- `[` and `]`, if they stand there
 data IsBrackets (l : ℕ) : List Leveled → Bool → Type 0 where
   none : IsBrackets l [] false
   some : (p q : Place) → IsBrackets l
-      (at l (sign (codes "[")) p ∷ (at (suc l) (sign (codes "]")) q ∷ [])) true
+      (at l (k.Sign BRACKET_OPEN) p ∷ (at (suc l) (k.Sign BRACKET_CLOSE) q ∷ [])) true
 
 narrower : {r r' : ℕ} → r ≤ r' → r - 1 ≤ r' - 1
 narrower h = omega arith
 
 brackets_law : (I : Type 0) (m : ℕ) → Sound I m (λ l. plain (IsBrackets l)) brackets
-brackets_law I m l r r' ts room wide = chosen (λ s c b. brackets_by c s b) _ m l r r' (sign (codes "[")) ts room wide (refl, refl) (λ s b. refl)
-    (λ p rest. expect_law _ _ m (suc l) (r - 1) (λ i. r' i - 1) (sign (codes "]")) rest (omega arith) (λ i. narrower (wide i)) (refl, refl) (λ q us. pure_law true us (some p q)))
+brackets_law I m l r r' ts room wide = chosen (λ s c b. brackets_by c s b) _ m l r r' (k.Sign BRACKET_OPEN) ts room wide (refl, refl) (λ s b. refl)
+    (λ p rest. expect_law _ _ m (suc l) (r - 1) (λ i. r' i - 1) (k.Sign BRACKET_CLOSE) rest (omega arith) (λ i. narrower (wide i)) (refl, refl) (λ q us. pure_law true us (some p q)))
     (λ other. pure_law false ts none)
 
 -- a parameter's name, if it has one, with the place of the parameter
@@ -61,7 +62,7 @@ param_of l n base place (first ∷ a) b _ _ _ _ h at_first i unnamed none =
     subst (λ p. IsParam l (first ∷ (a ++ (b ++ []))) (record { base = base; stars = n; name = None; place = p; array = false })) at_first
     (subst (λ c. IsParam l (first ∷ (a ++ c)) (record { base = base; stars = n; name = None; place = first.token.place; array = false })) (sym (append-nil b)) (g.unnamed h i))
 param_of l n base place (first ∷ a) b _ _ _ _ h at_first i unnamed (some p q) =
-    subst (λ p'. IsParam l (first ∷ (a ++ (b ++ at (l + n) (sign (codes "[")) p ∷ (at (suc (l + n)) (sign (codes "]")) q ∷ [])))) (record { base = base; stars = n; name = None; place = p'; array = true })) at_first (g.unnamed_array p q h i)
+    subst (λ p'. IsParam l (first ∷ (a ++ (b ++ at (l + n) (k.Sign BRACKET_OPEN) p ∷ (at (suc (l + n)) (k.Sign BRACKET_CLOSE) q ∷ [])))) (record { base = base; stars = n; name = None; place = p'; array = true })) at_first (g.unnamed_array p q h i)
 param_of l n base place (first ∷ a) b _ _ _ _ h at_first i (named p) none = g.named p h i
 param_of l n base place (first ∷ a) b _ _ _ _ h at_first i (named w) (some p q) = g.named_array w p q h i
 
@@ -81,22 +82,22 @@ parameter_law I m l r r' ts room wide =
 -- what is left of parameters, with the closing parenthesis
 data ParametersLeft (l : ℕ) (found : List Param) : List Leveled → List Param → Type 0 where
   left : {c : List Leveled} {zs : List Param} (q : Place) → IsParamList l c zs
-      → ParametersLeft l found (c ++ at l (sign (codes ")")) q ∷ []) (found ++ zs)
+      → ParametersLeft l found (c ++ at l (k.Sign PARENTHESIS_CLOSE) q ∷ []) (found ++ zs)
 
 parameter_goes : (l : ℕ) (p : Place) (found : List Param) (x : Param) (a c : List Leveled)
     (y : List Param) → IsParam l a x → ParametersLeft l (found ++ x ∷ []) c y
-    → ParametersLeft l found ((a ++ at l (sign (codes ",")) p ∷ []) ++ c) y
+    → ParametersLeft l found ((a ++ at l (k.Sign COMMA) p ∷ []) ++ c) y
 parameter_goes l p found x a _ _ h (left {c = c} {zs = zs} q i) =
-    moved (ParametersLeft l found) found x zs (grouped_item a (at l (sign (codes ",")) p) c (at l (sign (codes ")")) q ∷ [])) (left q (g.more p h i))
+    moved (ParametersLeft l found) found x zs (grouped_item a (at l (k.Sign COMMA) p) c (at l (k.Sign PARENTHESIS_CLOSE) q ∷ [])) (left q (g.more p h i))
 
 parameter_turn_law : (I : Type 0) (m l r : ℕ) (r' : I → ℕ) (found : List Param) (ts : List Token)
     → r ≡ m - l → ((i : I) → r ≤ r' i)
     → Lawful m (Turn (λ found. plain (ParametersLeft l found)) found) (λ i. parameter_turn (r' i) found) ts (parameter_turn r found ts)
 parameter_turn_law I m l r r' found ts room wide =
-    bind_law (λ i x. after_parameter (is_next (sign (codes ",")) x.1) (r' i) (found ++ x.0 ∷ []) x.1) (λ x. after_parameter (is_next (sign (codes ",")) x.1) r (found ++ x.0 ∷ []) x.1) (parameter_law I m l r r' ts room wide) (λ x rest a h cut.
-    chosen (λ s c b. after_parameter c s (found ++ x ∷ []) b) _ m l r r' (sign (codes ",")) rest room wide (refl, refl) (λ s b. refl)
-    (λ p us. pure_law (inl (found ++ x ∷ [])) us (longer a (at l (sign (codes ",")) p), λ c y vs i. parameter_goes l p found x a c y h i))
-    (λ other. expect_law (λ i c. Ok (inr (found ++ x ∷ []), c.1)) (λ c. Ok (inr (found ++ x ∷ []), c.1)) m l r r' (sign (codes ")")) rest room wide (refl, refl) (λ q us.
+    bind_law (λ i x. after_element (is_next (k.Sign COMMA) x.1) (r' i) (found ++ x.0 ∷ []) x.1) (λ x. after_element (is_next (k.Sign COMMA) x.1) r (found ++ x.0 ∷ []) x.1) (parameter_law I m l r r' ts room wide) (λ x rest a h cut.
+    chosen (λ s c b. after_element c s (found ++ x ∷ []) b) _ m l r r' (k.Sign COMMA) rest room wide (refl, refl) (λ s b. refl)
+    (λ p us. pure_law (inl (found ++ x ∷ [])) us (longer a (at l (k.Sign COMMA) p), λ c y vs i. parameter_goes l p found x a c y h i))
+    (λ other. expect_law (λ i c. Ok (inr (found ++ x ∷ []), c.1)) (λ c. Ok (inr (found ++ x ∷ []), c.1)) m l r r' (k.Sign PARENTHESIS_CLOSE) rest room wide (refl, refl) (λ q us.
     pure_law (inr (found ++ x ∷ [])) us (left q (g.one h)))))
 
 some_parameter : (l : ℕ) → Some_of (plain (IsParam l))
@@ -112,7 +113,7 @@ parameter_list_law I m l r r' ts room wide =
 -- parameters, and their closing parenthesis
 pub data ParamsThrough (l : ℕ) : List Leveled → List Param → Type 0 where
   params : {a : List Leveled} {xs : List Param} (q : Place) → IsParams l a xs
-      → ParamsThrough l (a ++ at l (sign (codes ")")) q ∷ []) xs
+      → ParamsThrough l (a ++ at l (k.Sign PARENTHESIS_CLOSE) q ∷ []) xs
 
 parameters_end : (l : ℕ) (a : List Leveled) (xs : List Param) → ParametersLeft l [] a xs
     → ParamsThrough l a xs
@@ -120,7 +121,7 @@ parameters_end l _ _ (left q h) = params q (g.some h)
 
 pub parameters_law : (I : Type 0) (m : ℕ) → Sound I m (λ l. plain (ParamsThrough l)) parameters
 parameters_law I m l r r' ts room wide =
-    chosen (λ s c b. parameters_by c (is_next (word (codes "void")) b) s b) _ m l r r' (sign (codes ")")) ts room wide (refl, refl) (λ s b. refl) (λ q rest. pure_law [] rest (params q g.nothing))
-    (λ other. chosen (λ s c b. parameters_by false c s b) _ m l r r' (word (codes "void")) ts room wide (refl, refl) (λ s b. refl)
-    (λ p rest. expect_law _ _ m l r r' (sign (codes ")")) rest room wide (refl, refl) (λ q us. pure_law [] us (params q (g.void p))))
+    chosen (λ s c b. parameters_by c (is_next (word VOID.now) b) s b) _ m l r r' (k.Sign PARENTHESIS_CLOSE) ts room wide (refl, refl) (λ s b. refl) (λ q rest. pure_law [] rest (params q g.nothing))
+    (λ other. chosen (λ s c b. parameters_by false c s b) _ m l r r' (word VOID.now) ts room wide (refl, refl) (λ s b. refl)
+    (λ p rest. expect_law _ _ m l r r' (k.Sign PARENTHESIS_CLOSE) rest room wide (refl, refl) (λ q us. pure_law [] us (params q (g.void p))))
     (λ not_void. weaken _ (λ i. parameter_list (r' i)) (λ b xs us h. parameters_end l b xs h) (λ i b. refl) (parameter_list_law I m l r r' ts room wide)))

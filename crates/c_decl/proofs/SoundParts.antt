@@ -14,7 +14,7 @@ use Rattle.c_expr.specs.Grammar.{IsBase}
 use Rattle.c_expr.specs.private.ParserRules.{IsRule}
 use Rattle.c_expr.specs.Next.{Outcome, ◌>>=◌, kind_of, place_of, refuse, take}
 use Rattle.c_expr.specs.private.ExpressionReading.{turns, ruled}
-use Rattle.c_expr.proofs.Law.{Law, Lawful, Some_of, plain, weaken, take_law, look_law}
+use Rattle.c_expr.proofs.Law.{Law, Lawful, Some_of, refuses_as, exceeds_as, plain, weaken, take_law, look_law}
 use Rattle.c_expr.proofs.ParserTurns.{Turn, turns_law, tokens_length}
 use Rattle.c_expr.proofs.ParserRulesLemmas.{rule_law}
 use Rattle.c_expr.proofs.ExpressionFronts.{Expected}
@@ -146,29 +146,8 @@ front_law {m = m} P {q = q} {o = o} place ts is some none h = record { law = go 
       holds = (h.holds, first_of_read place h.read x.1 ts is h.splits (λ e. none x.0 (subst (λ a. P a x.0) e h.holds)));
       again = h.again;
     }
-    go (Err (Unexpected p)) h = let w = completed P place h.read h.more h.value h.rest ts is h.splits h.holds some in record {
-      read = h.read;
-      rest = h.rest;
-      splits = h.splits;
-      place = h.place;
-      low = h.low;
-      more = w.spelling;
-      value = w.value;
-      holds = w.holds;
-      again = h.again;
-    }
-    go (Err (TooDeep p)) h = record {
-      read = h.read;
-      high = h.high;
-      rest = h.rest;
-      splits = h.splits;
-      place = h.place;
-      low = h.low;
-      is_high = h.is_high;
-      more = h.more;
-      value = h.value;
-      holds = (h.holds, first_of_high place h.read h.high h.more h.rest ts is h.splits);
-    }
+    go (Err (Unexpected p)) h = refuses_as q h (completed P place h.read h.more h.value h.rest ts is h.splits h.holds some) h.again
+    go (Err (TooDeep p)) h = exceeds_as h (record { spelling = h.more; value = h.value; holds = (h.holds, first_of_high place h.read h.high h.more h.rest ts is h.splits) })
     go (Err OutOfMemory) h = absurd h
 
 pub base_some : {l : ℕ} {a : List Leveled} {to : Ty} → IsBase l a to → 0 < length a

@@ -1,21 +1,22 @@
 -- A token that begins no statement is refused where a statement is wanted.
 use Rattle.std.proofs.Common.{◌≡◌, ℕ, zero, suc, List, Option, Some, None, Ok, Err, ap, Bool, false}
-use Rattle.std.specs.Prelude.{if◌then◌else◌, codes}
+use Rattle.std.specs.Prelude.{if◌then◌else◌}
 use Rattle.c_token.specs.declared.token.Token.{Token}
 use Rattle.c_tree.specs.declared.place.Place.{Place}
 use Rattle.c_tree.specs.Stmt.{Stmt}
 use Rattle.c_tree.specs.Stmt as stmt
 use Rattle.c_expr.specs.declared.fault.ParseFault.TheVariants.{Unexpected, TooDeep}
 use Rattle.c_expr.specs.private.ParserRules.{Assign}
-use Rattle.c_expr.specs.Spelled.{sign}
 use Rattle.c_expr.specs.Next.{Outcome, ◌>>=◌, kind_of, place_of, refuse, expect, begins}
 use Rattle.c_expr.proofs.ParserRulesLemmas.{refuses}
 use Rattle.c_decl.specs.private.StatementReading.{opening_of, begins_statement_by, begins_statement, expression_at, opened_by, opened, statement}
 use Rattle.c_decl.specs.declared.opening.Opening.{Opening}
+use Rattle.c_expr.specs.declared.punctuator.TheConstants.{SEMICOLON}
+use Rattle.c_token.specs.declared.token.Kind.TheVariants as k
 
 pub expression_refuses : (place : Place) (r : ℕ) (ts : List Token) → begins (kind_of ts) ≡ false
     → expression_at place r ts ≡ refuse ts
-expression_refuses place r ts e = ap (λ o. o >>= λ x. expect (sign (codes ";")) r x.1 >>= λ c. Ok (stmt.Expr x.0 place, c.1)) (refuses r Assign r ts e)
+expression_refuses place r ts e = ap (λ o. o >>= λ x. expect (k.Sign SEMICOLON) r x.1 >>= λ c. Ok (stmt.Expr x.0 place, c.1)) (refuses r Assign r ts e)
 
 opened_refuses : (again : ℕ → List Token → Outcome Stmt) (which : Option Opening) (r : ℕ)
     (ts : List Token) → begins_statement_by which (begins (kind_of ts)) ≡ false

@@ -7,14 +7,15 @@ use Rattle.c_tree.specs.declared.place.Place.{Place}
 use Rattle.c_tree.specs.Item.{Item}
 use Rattle.c_expr.specs.declared.fault.ParseFault.TheVariants.{Unexpected, TooDeep, OutOfMemory}
 use Rattle.c_expr.specs.Leveled.{Leveled, at, tokens_of, AreBelow}
-use Rattle.c_expr.specs.Next.{Outcome, ◌>>=◌, kind_of, place_of, nowhere, refuse, take}
+use Rattle.c_expr.specs.Next.{is_end, Outcome, ◌>>=◌, kind_of, place_of, nowhere, refuse, take}
 use Rattle.c_expr.specs.private.ExpressionReading.{turn, turns}
 use Rattle.c_expr.proofs.ExactExpressions.{below_of}
-use Rattle.c_expr.proofs.Law.{AreLow, Looks, Law, plain, weaken, goes, whole, after, take_some}
-use Rattle.c_expr.proofs.ParserTurns.{canon, turns_none, tokens_length}
+use Rattle.c_expr.proofs.Law as reader
+use Rattle.c_expr.proofs.Law.{refuses_as, exceeds_as, AreLow, Looks, Law, plain, weaken, goes, whole, after, take_some}
+use Rattle.c_expr.proofs.ParserTurns.{canon, tokens_length}
 use Rattle.c_decl.specs.Units as g
 use Rattle.c_decl.specs.Units.{IsItem, IsItems, IsUnit}
-use Rattle.c_decl.specs.private.UnitReading.{item, is_end, unit_turn_by, unit_turn, unit}
+use Rattle.c_decl.specs.private.UnitReading.{item, unit_turn_by, unit_turn, unit}
 use Rattle.c_decl.proofs.SoundDeclarators.{moved}
 use Rattle.c_decl.proofs.SoundItems.{item_law, item_some}
 
@@ -71,6 +72,10 @@ none_left found p = subst (λ xs. UnitLeft found (at zero k.End p ∷ []) xs) (a
 one_left : (found : List Item) (a : List Leveled) (x : Item) → IsItem zero a x
     → UnitLeft found (a ++ at zero k.End nowhere ∷ []) (found ++ x ∷ [])
 one_left found a x h = item_goes found x a (at zero k.End nowhere ∷ []) (found ++ x ∷ []) h (none_left (found ++ x ∷ []) nowhere)
+
+then_end : (found : List Item) (a c : List Leveled) (x : Item) → IsItem zero (a ++ c) x
+    → UnitLeft found (a ++ (c ++ at zero k.End nowhere ∷ [])) (found ++ x ∷ [])
+then_end found a c x h = subst (λ b. UnitLeft found b (found ++ x ∷ [])) (append_assoc a c (at zero k.End nowhere ∷ [])) (one_left found (a ++ c) x h)
 
 end_is : (kind : Kind) → is_end kind ≡ true → kind ≡ k.End
 end_is k.End e = refl
@@ -137,17 +142,7 @@ module _ (I : Type 0) (m r : ℕ) (r' : I → ℕ) (room : r ≡ m - zero) (some
   units found i b = turns (unit_turn (r' i)) (length b) found b
 
   nothing_left : (found : List Item) → Law m (plain (UnitLeft found)) (units found) [] (refuse [])
-  nothing_left found = record {
-    read = [];
-    rest = [];
-    splits = refl;
-    place = refl;
-    low = tt;
-    more = at zero k.End nowhere ∷ [];
-    value = found;
-    holds = none_left found nowhere;
-    again = λ i b l. turns_none (unit_turn (r' i)) (λ found. refl) (unit_shorter (r' i)) found b l;
-  }
+  nothing_left found = (reader.end_law (units found) (record { spelling = at zero k.End nowhere ∷ []; value = found; holds = none_left found nowhere }) (λ i. refl)).law
 
   end_law : (n : ℕ) (found : List Item) (ts : List Token) → is_end (kind_of ts) ≡ true
       → WholeLaw m (UnitLeft found) (units found) ts
@@ -175,29 +170,11 @@ module _ (I : Type 0) (m r : ℕ) (r' : I → ℕ) (room : r ≡ m - zero) (some
       (turns (unit_turn r) n (found ++ x.0 ∷ []) x.1)
       (whole_weaken m (UnitLeft (found ++ x.0 ∷ [])) (λ b y. UnitLeft found (h.read ++ b) y) (units (found ++ x.0 ∷ [])) x.1 (turns (unit_turn r) n (found ++ x.0 ∷ []) x.1) (λ b y i. item_goes found x.0 h.read b y h.holds i)
       (onwards (found ++ x.0 ∷ []) x.1 (omega (arith, ap length h.splits, length-append (tokens_of h.read) x.1, tokens_length h.read))))
-  item_then n found ts (Err (Unexpected p)) most e h onwards = record {
-    read = h.read;
-    rest = h.rest;
-    splits = h.splits;
-    place = h.place;
-    low = h.low;
-    more = h.more ++ at zero k.End nowhere ∷ [];
-    value = found ++ h.value ∷ [];
-    holds = subst (λ a. UnitLeft found a (found ++ h.value ∷ [])) (append_assoc h.read h.more (at zero k.End nowhere ∷ [])) (one_left found (h.read ++ h.more) h.value h.holds);
-    again = λ i b l. refused_again (r' i) found h.read h.rest ts b h.splits e l (h.again i b l);
-  }
-  item_then n found ts (Err (TooDeep p)) most e h onwards = record {
-    read = h.read;
-    high = h.high;
-    rest = h.rest;
-    splits = h.splits;
-    place = h.place;
-    low = h.low;
-    is_high = h.is_high;
-    more = h.more ++ at zero k.End nowhere ∷ [];
-    value = found ++ h.value ∷ [];
-    holds = subst (λ a. UnitLeft found a (found ++ h.value ∷ [])) (append_assoc h.read (h.high ∷ h.more) (at zero k.End nowhere ∷ [])) (one_left found (h.read ++ h.high ∷ h.more) h.value h.holds);
-  }
+  item_then n found ts (Err (Unexpected p)) most e h onwards =
+      refuses_as (units found) h (record { spelling = h.more ++ at zero k.End nowhere ∷ []; value = found ++ h.value ∷ []; holds = then_end found h.read h.more h.value h.holds })
+      (λ i b l. refused_again (r' i) found h.read h.rest ts b h.splits e l (h.again i b l))
+  item_then n found ts (Err (TooDeep p)) most e h onwards =
+      exceeds_as h (record { spelling = h.more ++ at zero k.End nowhere ∷ []; value = found ++ h.value ∷ []; holds = then_end found h.read (h.high ∷ h.more) h.value h.holds })
   item_then n found ts (Err OutOfMemory) most e h onwards = absurd h
 
   turn_then : (n : ℕ) (found : List Item) (ts : List Token) (c : Bool) → length ts ≤ suc n

@@ -2,18 +2,16 @@
 use Rattle.std.proofs.Common.{◌≡◌, zero, List, [], ◌∷◌, ◌++◌, Ok, Err, refl, sym, subst, arith, append-nil}
 use Rattle.std.specs.Prelude.{Result}
 use Rattle.c_token.specs.declared.token.Token.{Token}
-use Rattle.c_tree.specs.declared.place.Place.{Place}
 use Rattle.c_tree.specs.Item.{Item}
 use Rattle.c_expr.specs.declared.fault.ParseFault.{ParseFault}
 use Rattle.c_expr.specs.declared.fault.ParseFault.TheVariants.{Unexpected, TooDeep, OutOfMemory}
 use Rattle.c_expr.specs.Leveled.{Leveled, tokens_of}
-use Rattle.c_expr.specs.Next.{Outcome, place_of}
+use Rattle.c_expr.specs.Next.{Outcome}
 use Rattle.c_expr.specs.Parsing.{IsEnded}
-use Rattle.c_expr.proofs.ExactExpressions.{wide, below_of, not_all, read_ends, refused_ends}
-use Rattle.c_expr.proofs.Law.{Looks, AreLow}
+use Rattle.c_expr.proofs.ExactExpressions.{wide, read_ends, refused_by, deep_by}
 use Rattle.c_decl.specs.Units.{IsUnit}
 use Rattle.c_decl.specs.private.UnitReading.{unit}
-use Rattle.c_decl.specs.Whole.{IsOutOfPlace, ParsedWhole}
+use Rattle.c_decl.specs.Whole.{ParsedWhole}
 use Rattle.c_decl.proofs.SoundUnits.{WholeLaw, unit_law}
 
 -- what a parser of whole lists answers: a token that is left is out of place
@@ -24,24 +22,6 @@ whole_of (Err e) = Err e
 
 module _ {X : Type 0} (P : List Leveled → X → Type 0) (wider : List Leveled → List Token → Outcome X)
     (complete : (c : List Leveled) (x : X) → P c x → wider c (tokens_of c ++ []) ≡ Ok (x, [])) where
-  refused_by : (ts : List Token) (p : Place) (read : List Leveled) (rest : List Token)
-      (more : List Leveled) (x : X) → IsEnded ts → ts ≡ tokens_of read ++ rest → place_of rest ≡ p
-      → AreLow 201 read → P (read ++ more) x
-      → ((c : List Leveled) (b : List Token) → Looks rest b → wider c (tokens_of read ++ b) ≡ Err (Unexpected (place_of b))) → IsOutOfPlace P ts p
-  refused_by ts p read [] more x ended splits place low holds again = absurd (not_all 201 ts read ended low splits)
-  refused_by ts p read (next ∷ rest) more x ended splits place low holds again = record {
-    read = read;
-    next = next;
-    rest = rest;
-    splits = splits;
-    is_at = sym place;
-    low = below_of 201 read low;
-    more = more;
-    tree = x;
-    begins = holds;
-    no_further = refused_ends P wider complete read (next ∷ rest) again;
-  }
-
   pub whole_by : (ts : List Token) (o : Outcome X) → IsEnded ts → WholeLaw 201 P wider ts o
       → ParsedWhole P ts (whole_of o)
   whole_by ts (Ok (x, [])) ended h = record { read = h.read; splits = h.splits; spelled = h.holds; low = h.low; no_further = tt }
@@ -57,19 +37,8 @@ module _ {X : Type 0} (P : List Leveled → X → Type 0) (wider : List Leveled 
     begins = subst (λ a. P a x) (sym (append-nil h.read)) h.holds;
     no_further = read_ends P wider complete x h.read (next ∷ rest) h.again;
   }
-  whole_by ts (Err (Unexpected p)) ended h = refused_by ts p h.read h.rest h.more h.value ended h.splits h.place h.low h.holds h.again
-  whole_by ts (Err (TooDeep p)) ended h = record {
-    read = h.read;
-    deep = h.high;
-    rest = h.rest;
-    splits = h.splits;
-    is_at = sym h.place;
-    low = below_of 201 h.read h.low;
-    is_deep = let high = h.is_high in omega arith;
-    more = h.more;
-    tree = h.value;
-    begins = h.holds;
-  }
+  whole_by ts (Err (Unexpected p)) ended h = (refused_by P wider complete ts p h.read h.rest h.more h.value ended h.splits h.place h.low h.holds h.again).stop
+  whole_by ts (Err (TooDeep p)) ended h = deep_by P wider complete ts p h
   whole_by ts (Err OutOfMemory) ended h = tt
 
 -- a whole text, by its own reader with more room

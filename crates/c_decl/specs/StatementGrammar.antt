@@ -1,6 +1,6 @@
 -- The grammar of statements: which tokens, each with its level, spell which statement (C11 6.8). One constructor for each alternative.
 -- The number of each family is the level that what is open outside adds to each token.
-use Rattle.std.specs.Prelude.{◌≡◌, ℕ, suc, List, [], ◌∷◌, ◌++◌, Bool, true, false, codes, Option, Some, None}
+use Rattle.std.specs.Prelude.{◌≡◌, ℕ, suc, List, [], ◌∷◌, ◌++◌, Bool, true, false, Option, Some, None}
 use Rattle.c_tree.specs.declared.ctype.CType.{CType}
 use Rattle.c_tree.specs.declared.place.Place.{Place}
 use Rattle.c_tree.specs.declared.tree.Count.{Count}
@@ -17,10 +17,11 @@ use Rattle.c_tree.specs.View.{stmts_list}
 use Rattle.c_token.specs.declared.token.Kind.{Kind}
 use Rattle.c_token.specs.declared.token.Kind.TheVariants as k
 use Rattle.c_expr.specs.Leveled.{Leveled, at}
-use Rattle.c_expr.specs.Spelled.{sign}
 use Rattle.c_expr.specs.Grammar.{IsAssign}
 use Rattle.c_decl.specs.GrammarWords.{word, marker_of}
 use Rattle.c_decl.specs.Declarations.{IsVars}
+use Rattle.c_expr.specs.declared.punctuator.TheConstants.{PARENTHESIS_OPEN, PARENTHESIS_CLOSE, BRACE_OPEN, BRACE_CLOSE, COMMA, SEMICOLON}
+use Rattle.c_decl.specs.declared.reserved.TheConstants.{IF, ELSE, WHILE, DO, FOR, RETURN, BREAK, CONTINUE, POST}
 
 -- how many bytes a post sends
 pub data IsCount : ℕ → List Leveled → Count → Type 0 where
@@ -33,17 +34,17 @@ pub data IsMarker : ℕ → List Leveled → Marker → Type 0 where
   numbered : {l v : ℕ} {kind : Kind} {ty : CType} {mark : ℕ → Marker} (p q r s t : Place)
       → marker_of kind ≡ Some mark
       → IsMarker l (at l kind p
-      ∷ (at l (sign (codes "(")) q
+      ∷ (at l (k.Sign PARENTHESIS_OPEN) q
       ∷ (at l (k.Number ty v) r
-      ∷ (at l (sign (codes ")")) s ∷ (at l (sign (codes ";")) t ∷ []))))) (mark v)
+      ∷ (at l (k.Sign PARENTHESIS_CLOSE) s ∷ (at l (k.Sign SEMICOLON) t ∷ []))))) (mark v)
   post : {l v : ℕ} {ty : CType} {n : List ℕ} {c : Count} {a : List Leveled}
       (p q r s t u x y : Place) → IsCount l a c
       → IsMarker l
-      (at l (word (codes "Post")) p
-      ∷ (at l (sign (codes "(")) q
+      (at l (word POST.now) p
+      ∷ (at l (k.Sign PARENTHESIS_OPEN) q
       ∷ (at l (k.Number ty v) r
-      ∷ (at l (sign (codes ",")) s ∷ (at l (k.Name n) t ∷ (at l (sign (codes ",")) u
-      ∷ (a ++ at l (sign (codes ")")) x ∷ (at l (sign (codes ";")) y ∷ []))))))))
+      ∷ (at l (k.Sign COMMA) s ∷ (at l (k.Name n) t ∷ (at l (k.Sign COMMA) u
+      ∷ (a ++ at l (k.Sign PARENTHESIS_CLOSE) x ∷ (at l (k.Sign SEMICOLON) y ∷ []))))))))
       (m.Post v n t c)
 
 -- an expression, or none
@@ -67,10 +68,10 @@ mutual
         → IsBlock (suc l) (first ∷ a) ss
         → IsStatement false l (first ∷ a) (the_stmt.Block (stmts_list ss) first.token.place)
     empty : {l : ℕ} {p : Place}
-        → IsStatement false l (at (suc l) (sign (codes ";")) p ∷ []) (the_stmt.Empty p)
+        → IsStatement false l (at (suc l) (k.Sign SEMICOLON) p ∷ []) (the_stmt.Empty p)
     expression : {l : ℕ} {first : Leveled} {a : List Leveled} {x : Expr} (p : Place)
         → IsAssign (suc l) (first ∷ a) x
-        → IsStatement false l (first ∷ (a ++ at (suc l) (sign (codes ";")) p ∷ []))
+        → IsStatement false l (first ∷ (a ++ at (suc l) (k.Sign SEMICOLON) p ∷ []))
         (the_stmt.Expr x first.token.place)
     marker : {l : ℕ} {first : Leveled} {a : List Leveled} {mark : Marker}
         → IsMarker (suc l) (first ∷ a) mark
@@ -78,56 +79,59 @@ mutual
     if : {open_if : Bool} {l : ℕ} {p : Place} {a b : List Leveled} {x : Expr} {s : Stmt}
         (q r : Place)
         → IsAssign (suc l) a x → IsStatement open_if (suc l) b s
-        → IsStatement true l (at (suc l) (word (codes "if")) p
-        ∷ (at (suc l) (sign (codes "(")) q ∷ (a ++ at (suc l) (sign (codes ")")) r ∷ b)))
+        → IsStatement true l (at (suc l) (word IF.now) p
+        ∷ (at (suc l) (k.Sign PARENTHESIS_OPEN) q
+        ∷ (a ++ at (suc l) (k.Sign PARENTHESIS_CLOSE) r ∷ b)))
         (the_stmt.If x s the_stmt.NoElse p)
     if_else : {open_if : Bool} {l : ℕ} {p : Place} {a b c : List Leveled} {x : Expr} {s t : Stmt}
         (q r e : Place)
         → IsAssign (suc l) a x → IsStatement false (suc l) b s → IsStatement open_if (suc l) c t
         → IsStatement open_if l
-        (at (suc l) (word (codes "if")) p
-        ∷ (at (suc l) (sign (codes "(")) q
-        ∷ (a ++ at (suc l) (sign (codes ")")) r
-        ∷ (b ++ at (suc l) (word (codes "else")) e ∷ c))))
+        (at (suc l) (word IF.now) p
+        ∷ (at (suc l) (k.Sign PARENTHESIS_OPEN) q
+        ∷ (a ++ at (suc l) (k.Sign PARENTHESIS_CLOSE) r
+        ∷ (b ++ at (suc l) (word ELSE.now) e ∷ c))))
         (the_stmt.If x s (the_stmt.Else t) p)
     while : {open_if : Bool} {l : ℕ} {p : Place} {a b : List Leveled} {x : Expr} {s : Stmt}
         (q r : Place)
         → IsAssign (suc l) a x → IsStatement open_if (suc l) b s
-        → IsStatement open_if l (at (suc l) (word (codes "while")) p
-        ∷ (at (suc l) (sign (codes "(")) q ∷ (a ++ at (suc l) (sign (codes ")")) r ∷ b)))
+        → IsStatement open_if l (at (suc l) (word WHILE.now) p
+        ∷ (at (suc l) (k.Sign PARENTHESIS_OPEN) q
+        ∷ (a ++ at (suc l) (k.Sign PARENTHESIS_CLOSE) r ∷ b)))
         (the_stmt.While x s p)
     do_while : {open_if : Bool} {l : ℕ} {p : Place} {a b : List Leveled} {s : Stmt} {x : Expr}
         (w q r e : Place)
         → IsStatement open_if (suc l) a s → IsAssign (suc l) b x
         → IsStatement false l
-        (at (suc l) (word (codes "do")) p
-        ∷ (a ++ at (suc l) (word (codes "while")) w ∷ (at (suc l) (sign (codes "(")) q
-        ∷ (b ++ at (suc l) (sign (codes ")")) r ∷ (at (suc l) (sign (codes ";")) e ∷ [])))))
+        (at (suc l) (word DO.now) p
+        ∷ (a ++ at (suc l) (word WHILE.now) w ∷ (at (suc l) (k.Sign PARENTHESIS_OPEN) q
+        ∷ (b ++ at (suc l) (k.Sign PARENTHESIS_CLOSE) r ∷ (at (suc l) (k.Sign SEMICOLON) e ∷ [])))))
         (the_stmt.Do s x p)
     for : {open_if : Bool} {l : ℕ} {p : Place} {a b c d : List Leveled} {f : First}
         {x y : Option Expr} {s : Stmt} (q r t u : Place)
         → IsBeginning (suc l) a f → IsOptional (suc l) b x → IsOptional (suc l) c y
         → IsStatement open_if (suc l) d s
         → IsStatement open_if l
-        (at (suc l) (word (codes "for")) p
-        ∷ (at (suc l) (sign (codes "(")) q ∷ (a ++ at (suc l) (sign (codes ";")) r
-        ∷ (b ++ at (suc l) (sign (codes ";")) t ∷ (c ++ at (suc l) (sign (codes ")")) u ∷ d)))))
+        (at (suc l) (word FOR.now) p
+        ∷ (at (suc l) (k.Sign PARENTHESIS_OPEN) q ∷ (a ++ at (suc l) (k.Sign SEMICOLON) r
+        ∷ (b ++ at (suc l) (k.Sign SEMICOLON) t
+        ∷ (c ++ at (suc l) (k.Sign PARENTHESIS_CLOSE) u ∷ d)))))
         (the_stmt.For f x y s p)
     return : {l : ℕ} {p : Place} {a : List Leveled} {x : Option Expr} (q : Place)
         → IsOptional (suc l) a x
-        → IsStatement false l (at (suc l) (word (codes "return")) p
-        ∷ (a ++ at (suc l) (sign (codes ";")) q ∷ [])) (the_stmt.Return x p)
+        → IsStatement false l (at (suc l) (word RETURN.now) p
+        ∷ (a ++ at (suc l) (k.Sign SEMICOLON) q ∷ [])) (the_stmt.Return x p)
     break : {l : ℕ} {p : Place} (q : Place)
-        → IsStatement false l (at (suc l) (word (codes "break")) p
-        ∷ (at (suc l) (sign (codes ";")) q ∷ [])) (the_stmt.Break p)
+        → IsStatement false l (at (suc l) (word BREAK.now) p
+        ∷ (at (suc l) (k.Sign SEMICOLON) q ∷ [])) (the_stmt.Break p)
     continue : {l : ℕ} {p : Place} (q : Place)
-        → IsStatement false l (at (suc l) (word (codes "continue")) p
-        ∷ (at (suc l) (sign (codes ";")) q ∷ [])) (the_stmt.Continue p)
+        → IsStatement false l (at (suc l) (word CONTINUE.now) p
+        ∷ (at (suc l) (k.Sign SEMICOLON) q ∷ [])) (the_stmt.Continue p)
 
   -- block (C11 6.8.2)
   pub data IsBlock : ℕ → List Leveled → List Stmt → Type 0 where
     braces : {l : ℕ} {a : List Leveled} {ss : List Stmt} (p q : Place) → IsBody l a ss
-        → IsBlock l (at l (sign (codes "{")) p ∷ (a ++ at l (sign (codes "}")) q ∷ [])) ss
+        → IsBlock l (at l (k.Sign BRACE_OPEN) p ∷ (a ++ at l (k.Sign BRACE_CLOSE) q ∷ [])) ss
 
   -- what stands in a block: statements and declarations
   pub data IsBody : ℕ → List Leveled → List Stmt → Type 0 where
@@ -136,5 +140,5 @@ mutual
         → IsStatement open_if l a s → IsBody l b ss → IsBody l (a ++ b) (s ∷ ss)
     vars : {l : ℕ} {first : Leveled} {a b : List Leveled} {ds : List Var} {ss : List Stmt}
         (p : Place) → IsVars l (first ∷ a) ds → IsBody l b ss
-        → IsBody l (first ∷ (a ++ at l (sign (codes ";")) p ∷ b))
+        → IsBody l (first ∷ (a ++ at l (k.Sign SEMICOLON) p ∷ b))
         (the_stmt.Vars ds first.token.place ∷ ss)

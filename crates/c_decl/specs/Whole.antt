@@ -1,28 +1,13 @@
 -- What a parser of whole lists answers for a rule of the grammar.
-use Rattle.std.specs.Prelude.{◌≡◌, List, [], ◌∷◌, ◌++◌, Result, Ok, Err}
-use Rattle.c_tree.specs.declared.place.Place.{Place}
+use Rattle.std.specs.Prelude.{List, [], Result, Ok, Err}
 use Rattle.c_tree.specs.declared.tree.Tree.{Tree}
 use Rattle.c_tree.specs.View.{items_of}
 use Rattle.c_token.specs.declared.token.Token.{Token}
 use Rattle.c_expr.specs.declared.fault.ParseFault.{ParseFault}
 use Rattle.c_expr.specs.declared.fault.ParseFault.TheVariants.{Unexpected, TooDeep, OutOfMemory}
-use Rattle.c_expr.specs.Leveled.{Leveled, tokens_of, AreBelow}
-use Rattle.c_expr.specs.Parsing.{GoesNoFurther, IsRead, IsTooDeep}
+use Rattle.c_expr.specs.Leveled.{Leveled}
+use Rattle.c_expr.specs.Parsing.{IsRead, IsOutOfPlace, IsTooDeep}
 use Rattle.c_decl.specs.Units.{IsUnit}
-
--- The tokens before this one begin a list of the rule, and with it they begin none.
-pub record IsOutOfPlace {X : Type 0} (P : List Leveled → X → Type 0) (ts : List Token)
-    (place : Place) : Type 0 where
-  pub read : List Leveled
-  pub next : Token
-  pub rest : List Token
-  pub splits : ts ≡ tokens_of read ++ next ∷ rest
-  pub is_at : place ≡ next.place
-  pub low : AreBelow 201 read
-  pub more : List Leveled
-  pub tree : X
-  pub begins : P (read ++ more) tree
-  pub no_further : GoesNoFurther P read (next ∷ rest)
 
 -- The whole list spells the tree; or the fault is that of the first token that is out of place or too deep, and out of place if it is both.
 -- Want of memory may come at any time.

@@ -1,5 +1,5 @@
 -- What contracts of private functions alone cite.
 pub mod DeclarationReading
-pub mod EndedTokens
+pub mod Lowers
 pub mod StatementReading
 pub mod UnitReading

@@ -1,241 +1,203 @@
-//! Declarators. Each function reads from the front of the tokens, and answers what it read and what is left.
+//! Declarators. Each function reads where the cursor is, and answers what it read.
 
-ghost use Rattle.std.specs.Prelude.{◌≤◌, [], map, option_map, IfOk};
+ghost use Rattle.std.specs.Prelude.{◌≤◌, [], map, option_map};
 ghost use Rattle.c_tree.specs.View as view;
-ghost use Rattle.c_expr.specs.Next.{Gives, Reads};
+ghost use Rattle.c_expr.specs.Reads.{Reads, ReadsInPlace};
 ghost use Rattle.c_decl.specs.private.DeclarationReading as read;
+ghost use Rattle.c_decl.specs.private.Lowers.{Lowers};
 
 use crate::expression::{parse_assign, parse_conditional};
-use crate::rest::{Rest, expect, parse_base, take};
-use c_expr::{ParseFault, is_sign, place_of};
-use c_token::{Kind, Token};
+use c_expr::punctuator::{
+    BRACE_CLOSE, BRACE_OPEN, BRACKET_CLOSE, BRACKET_OPEN, COMMA, EQUALS, SEMICOLON, STAR,
+};
+use c_expr::{Cursor, ParseFault, parse_base};
+use c_token::Kind;
 use c_tree::{CType, Expr, Init, Name, Place, Var};
 use std::alloc::Global;
 
-/// Stars (C11 6.7.6.1): how many, and the room behind them.
-pub(crate) fn parse_stars(whole: Rest, mut room: u32) -> Result<(u32, u32, Rest), ParseFault>
-    ensures value { Reads (λ x. ((x.0, x.1), x.2.tokens.now)) result
-        (read.stars_from room 0 whole.entry.tokens.now) }
-    ensures room { IfOk result (λ x. x.1 ≤ room) }
+/// What a declarator begins with: the base, the stars, the name and its place.
+#[derive(Drop)]
+pub(crate) struct Head {
+    pub(crate) base: CType,
+    pub(crate) stars: u32,
+    pub(crate) name: Name,
+    pub(crate) place: Place,
+}
+
+/// Stars (C11 6.7.6.1): how many. Each adds a level to what follows.
+pub(crate) fn parse_stars(cursor: &mut Cursor) -> Result<u32, ParseFault>
+    ensures { Lowers (λ n. n) result cursor.old cursor.new (λ r. read.stars_from r 0) }
 {
     let mut count = 0;
-    let mut rest = whole;
-    while is_sign(rest.tokens, *b"*\0\0") {
-        let (_, after) = take(rest, room)?;
-        room -= 1;
+    while cursor.is_sign(STAR) {
+        cursor.take()?;
+        cursor.room -= 1;
         count += 1;
-        rest = after;
     }
-    Ok((count, room, rest))
+    Ok(count)
 }
 
 /// A name, in memory of its own, and its place.
-pub(crate) fn parse_name(
-    alloc: Global,
-    rest: Rest,
-    room: u32,
-) -> Result<(Name, Place, Rest), ParseFault>
-    ensures { Gives (λ x. ((x.0, x.1), x.2.tokens.now)) result
-        (read.name room rest.entry.tokens.now) }
+pub(crate) fn parse_name(alloc: Global, cursor: &mut Cursor) -> Result<(Name, Place), ParseFault>
+    ensures { Reads (λ x. x) result cursor.old cursor.new read.name }
 {
-    match rest.tokens {
-        [
-            Token {
-                kind: Kind::Name(name),
-                ..
-            },
-            ..
-        ] => {
-            let (first, rest) = take(rest, room)?;
-            Ok((name.again(alloc)?, first.place, rest))
+    match cursor.kind() {
+        Some(Kind::Name(name)) => {
+            let place = cursor.take()?.place;
+            Ok((name.again(alloc)?, place))
         }
-        _ => Err(ParseFault::Unexpected(place_of(rest.tokens))),
+        _ => Err(cursor.unexpected()),
     }
 }
 
-/// Sizes of arrays behind a name (C11 6.7.6.2), and the room behind them.
-fn parse_sizes(
-    alloc: Global,
-    whole: Rest,
-    mut room: u32,
-) -> Result<(Vec<Expr>, u32, Rest), ParseFault>
-    requires { room ≤ 201 }
-    ensures value { Gives (λ x. ((map view.expr_of x.0.items, x.1), x.2.tokens.now)) result
-        (read.sizes_from room [] whole.entry.tokens.now) }
-    ensures room { IfOk result (λ x. x.1 ≤ room) }
+/// Sizes of arrays after a name (C11 6.7.6.2). Each bracket adds a level to what follows.
+fn parse_sizes(alloc: Global, cursor: &mut Cursor) -> Result<Vec<Expr>, ParseFault>
+    ensures { Lowers (λ found. map view.expr_of found.items) result cursor.old cursor.new
+        (λ r. read.sizes_from r []) }
 {
     let mut found = Vec::new(alloc);
-    let mut rest = whole;
-    while is_sign(rest.tokens, *b"[\0\0") {
-        let (_, after) = take(rest, room)?;
-        room -= 1;
-        let (size, after) = parse_conditional(alloc, after, room)?;
-        let (_, after) = expect(*b"]\0\0", after, room)?;
+    while cursor.is_sign(BRACKET_OPEN) {
+        cursor.take()?;
+        cursor.room -= 1;
+        let size = parse_conditional(alloc, cursor)?;
+        cursor.expect(BRACKET_CLOSE)?;
         found.push(size)?;
-        rest = after;
     }
-    Ok((found, room, rest))
+    Ok(found)
 }
 
 /// What a variable is initialised with (C11 6.7.9).
-fn parse_init(alloc: Global, rest: Rest, room: u32) -> Result<(Init, Rest), ParseFault>
-    requires { room ≤ 201 }
-    ensures { Gives (λ x. (view.init_of x.0, x.1.tokens.now)) result
-        (read.init room rest.entry.tokens.now) }
+fn parse_init(alloc: Global, cursor: &mut Cursor) -> Result<Init, ParseFault>
+    ensures { Reads view.init_of result cursor.old cursor.new read.init }
 {
-    if is_sign(rest.tokens, *b"{\0\0") {
-        let (_, rest) = take(rest, room)?;
-        let (found, rest) = parse_values(alloc, rest, room)?;
-        Ok((Init::Many(found), rest))
+    if cursor.is_sign(BRACE_OPEN) {
+        cursor.take()?;
+        Ok(Init::Many(parse_values(alloc, cursor)?))
     } else {
-        let (value, rest) = parse_assign(alloc, rest, room)?;
-        Ok((Init::One(value), rest))
+        Ok(Init::One(parse_assign(alloc, cursor)?))
     }
 }
 
 /// Values with commas between them and the closing brace, before which one more comma may stand.
-fn parse_values(alloc: Global, whole: Rest, room: u32) -> Result<(Vec<Expr>, Rest), ParseFault>
-    requires { room ≤ 201 }
-    ensures { Gives (λ x. (map view.expr_of x.0.items, x.1.tokens.now)) result
-        (read.values room whole.entry.tokens.now) }
+fn parse_values(alloc: Global, cursor: &mut Cursor) -> Result<Vec<Expr>, ParseFault>
+    ensures { Reads (λ found. map view.expr_of found.items) result cursor.old cursor.new
+        read.values }
 {
     let mut found = Vec::new(alloc);
-    let mut rest = whole;
-    for _ in 0..whole.tokens.len() {
-        let (value, after) = parse_assign(alloc, rest, room)?;
+    for _ in 0..cursor.tokens.len() {
+        let value = parse_assign(alloc, cursor)?;
         found.push(value)?;
-        let (ended, after) = parse_value_end(after, room)?;
-        if ended {
-            return Ok((found, after));
+        if parse_value_end(cursor)? {
+            return Ok(found);
         }
-        rest = after;
     }
-    Err(ParseFault::Unexpected(place_of(rest.tokens)))
+    Err(cursor.unexpected())
 }
 
 /// What follows a value, and whether that ends the list.
-fn parse_value_end(rest: Rest, room: u32) -> Result<(bool, Rest), ParseFault>
-    ensures { Reads (λ x. (x.0, x.1.tokens.now)) result
-        (read.value_end room rest.entry.tokens.now) }
+fn parse_value_end(cursor: &mut Cursor) -> Result<bool, ParseFault>
+    ensures { ReadsInPlace (λ ended. ended) result cursor.old cursor.new read.value_end }
 {
-    if is_sign(rest.tokens, *b",\0\0") {
-        let (_, rest) = take(rest, room)?;
-        if is_sign(rest.tokens, *b"}\0\0") {
-            let (_, rest) = take(rest, room)?;
-            Ok((true, rest))
+    if cursor.is_sign(COMMA) {
+        cursor.take()?;
+        if cursor.is_sign(BRACE_CLOSE) {
+            cursor.take()?;
+            Ok(true)
         } else {
-            Ok((false, rest))
+            Ok(false)
         }
     } else {
-        let (_, rest) = expect(*b"}\0\0", rest, room)?;
-        Ok((true, rest))
+        cursor.expect(BRACE_CLOSE)?;
+        Ok(true)
     }
 }
 
-/// A declarator (C11 6.7.6), behind its base.
-fn parse_var<'a>(
-    alloc: Global,
-    base: &CType,
-    rest: Rest<'a>,
-    room: u32,
-) -> Result<(Var, Rest<'a>), ParseFault>
-    requires { room ≤ 201 }
-    ensures { Gives (λ x. (view.var_of x.0, x.1.tokens.now)) result
-        (read.declarator (view.ty_of base.now) room rest.entry.tokens.now) }
+/// A declarator (C11 6.7.6), after its base.
+fn parse_var(alloc: Global, base: &CType, cursor: &mut Cursor) -> Result<Var, ParseFault>
+    ensures { Reads view.var_of result cursor.old cursor.new
+        (read.declarator (view.ty_of base.now)) }
 {
-    let (stars, room, rest) = parse_stars(rest, room)?;
-    let (name, place, rest) = parse_name(alloc, rest, room)?;
+    let room = cursor.room;
+    let stars = parse_stars(cursor)?;
+    let (name, place) = parse_name(alloc, cursor)?;
     let base = base.again(alloc)?;
-    parse_behind_name(alloc, base, stars, name, place, rest, room)
-}
-
-/// The rest of a declarator, behind its name.
-pub(crate) fn parse_behind_name(
-    alloc: Global,
-    base: CType,
-    stars: u32,
-    name: Name,
-    place: Place,
-    rest: Rest,
-    room: u32,
-) -> Result<(Var, Rest), ParseFault>
-    requires { room ≤ 201 }
-    ensures { Gives (λ x. (view.var_of x.0, x.1.tokens.now)) result
-        (read.behind_name (view.ty_of base) stars name place room rest.entry.tokens.now) }
-{
-    let (sizes, room, rest) = parse_sizes(alloc, rest, room)?;
-    let (init, rest) = parse_optional_init(alloc, rest, room)?;
-    let var = Var {
+    let head = Head {
         base,
         stars,
         name,
         place,
+    };
+    let found = parse_after_name(alloc, head, cursor)?;
+    cursor.room = room;
+    Ok(found)
+}
+
+/// The rest of a declarator, after its name.
+pub(crate) fn parse_after_name(
+    alloc: Global,
+    head: Head,
+    cursor: &mut Cursor,
+) -> Result<Var, ParseFault>
+    ensures { Reads view.var_of result cursor.old cursor.new
+        (read.behind_name (view.ty_of head.base) head.stars head.name head.place) }
+{
+    let room = cursor.room;
+    let sizes = parse_sizes(alloc, cursor)?;
+    let init = parse_optional_init(alloc, cursor)?;
+    cursor.room = room;
+    Ok(Var {
+        base: head.base,
+        stars: head.stars,
+        name: head.name,
+        place: head.place,
         sizes,
         init,
-    };
-    Ok((var, rest))
+    })
 }
 
 /// The initialiser of a declarator, if it has one.
-fn parse_optional_init(
-    alloc: Global,
-    rest: Rest,
-    room: u32,
-) -> Result<(Option<Init>, Rest), ParseFault>
-    requires { room ≤ 201 }
-    ensures { Gives (λ x. (option_map view.init_of x.0, x.1.tokens.now)) result
-        (read.initialised room rest.entry.tokens.now) }
+fn parse_optional_init(alloc: Global, cursor: &mut Cursor) -> Result<Option<Init>, ParseFault>
+    ensures { Reads (option_map view.init_of) result cursor.old cursor.new read.initialised }
 {
-    if is_sign(rest.tokens, *b"=\0\0") {
-        let (_, rest) = take(rest, room)?;
-        let (init, rest) = parse_init(alloc, rest, room)?;
-        Ok((Some(init), rest))
+    if cursor.is_sign(EQUALS) {
+        cursor.take()?;
+        Ok(Some(parse_init(alloc, cursor)?))
     } else {
-        Ok((None, rest))
+        Ok(None)
     }
 }
 
 /// What follows the first declarator, through the semicolon.
-pub(crate) fn parse_more_vars<'a>(
+pub(crate) fn parse_more_vars(
     alloc: Global,
     base: &CType,
     first: Var,
-    whole: Rest<'a>,
-    room: u32,
-) -> Result<(Vec<Var>, Rest<'a>), ParseFault>
-    requires { room ≤ 201 }
-    ensures { Gives (λ x. (map view.var_of x.0.items, x.1.tokens.now)) result
-        (read.more_declarators (view.ty_of base.now)
-        (view.var_of first) room whole.entry.tokens.now) }
+    cursor: &mut Cursor,
+) -> Result<Vec<Var>, ParseFault>
+    ensures { Reads (λ found. map view.var_of found.items) result cursor.old cursor.new
+        (read.more_declarators (view.ty_of base.now) (view.var_of first)) }
 {
     let mut found = Vec::new(alloc);
     found.push(first)?;
-    let mut rest = whole;
-    for _ in 0..whole.tokens.len() {
-        if is_sign(rest.tokens, *b",\0\0") {
-            let (_, after) = take(rest, room)?;
-            let (next, after) = parse_var(alloc, base, after, room)?;
+    for _ in 0..cursor.tokens.len() {
+        if cursor.is_sign(COMMA) {
+            cursor.take()?;
+            let next = parse_var(alloc, base, cursor)?;
             found.push(next)?;
-            rest = after;
         } else {
-            let (_, after) = expect(*b";\0\0", rest, room)?;
-            return Ok((found, after));
+            cursor.expect(SEMICOLON)?;
+            return Ok(found);
         }
     }
-    Err(ParseFault::Unexpected(place_of(rest.tokens)))
+    Err(cursor.unexpected())
 }
 
 /// A declaration of variables (C11 6.7), through the semicolon.
-pub(crate) fn parse_vars(
-    alloc: Global,
-    rest: Rest,
-    room: u32,
-) -> Result<(Vec<Var>, Rest), ParseFault>
-    requires { room ≤ 201 }
-    ensures { Gives (λ x. (map view.var_of x.0.items, x.1.tokens.now)) result
-        (read.vars room rest.entry.tokens.now) }
+pub(crate) fn parse_vars(alloc: Global, cursor: &mut Cursor) -> Result<Vec<Var>, ParseFault>
+    ensures { Reads (λ found. map view.var_of found.items) result cursor.old cursor.new
+        read.vars }
 {
-    let (base, rest) = parse_base(rest, room)?;
-    let (first, rest) = parse_var(alloc, &base, rest, room)?;
-    parse_more_vars(alloc, &base, first, rest, room)
+    let base = parse_base(cursor)?;
+    let first = parse_var(alloc, &base, cursor)?;
+    parse_more_vars(alloc, &base, first, cursor)
 }

@@ -1,27 +1,30 @@
 //! Items of a text (C11 6.9).
 
-ghost use Rattle.std.specs.Prelude.{◌≡◌, ◌≤◌, map, option_map};
+ghost use Rattle.std.specs.Prelude.{◌≡◌, map, option_map};
 ghost use Rattle.c_tree.specs.View as view;
-ghost use Rattle.c_expr.specs.Next.{Gives, kind_of};
+ghost use Rattle.c_expr.specs.Next.{kind_of};
+ghost use Rattle.c_expr.specs.Reads.{Reads};
 ghost use Rattle.c_decl.specs.private.UnitReading as read;
 ghost use Rattle.c_decl.specs.GrammarWords as words;
 
-use crate::declarator::{parse_behind_name, parse_more_vars, parse_name, parse_stars, parse_vars};
+use crate::declarator::{
+    Head, parse_after_name, parse_more_vars, parse_name, parse_stars, parse_vars,
+};
 use crate::parameter::parse_params;
-use crate::rest::{Rest, expect, parse_base, take};
+use crate::reserved::{BOP_CHECKED, BOP_PRIVATE, VOID};
 use crate::statement::parse_body;
-use c_expr::{ParseFault, is_sign, is_word};
-use c_token::Token;
+use c_expr::punctuator::{BRACE_OPEN, PARENTHESIS_OPEN, SEMICOLON};
+use c_expr::{Cursor, ParseFault, parse_base};
 use c_tree::{CType, Fun, Item, Keep, Name, Param, Place, Stmt};
 use std::alloc::Global;
 
 /// How globals are kept, where a word says it.
-fn keep_of(rest: &[Token]) -> Option<Keep>
-    ensures { result ≡ words.keep_of (kind_of rest.now) }
+fn keep_of(cursor: &Cursor) -> Option<Keep>
+    ensures { result ≡ words.keep_of (kind_of cursor.now.tokens.now) }
 {
-    if is_word(rest, "BOP_CHECKED") {
+    if cursor.is_word(BOP_CHECKED) {
         Some(Keep::Checked)
-    } else if is_word(rest, "BOP_PRIVATE") {
+    } else if cursor.is_word(BOP_PRIVATE) {
         Some(Keep::Private)
     } else {
         None
@@ -29,106 +32,82 @@ fn keep_of(rest: &[Token]) -> Option<Keep>
 }
 
 /// An item.
-pub(crate) fn parse_item(alloc: Global, rest: Rest, room: u32) -> Result<(Item, Rest), ParseFault>
-    requires { room ≤ 201 }
-    ensures { Gives (λ x. (view.item_of x.0, x.1.tokens.now)) result
-        (read.item room rest.entry.tokens.now) }
+pub(crate) fn parse_item(alloc: Global, cursor: &mut Cursor) -> Result<Item, ParseFault>
+    ensures { Reads view.item_of result cursor.old cursor.new read.item }
 {
-    if let Some(keep) = keep_of(rest.tokens) {
-        let (_, rest) = take(rest, room)?;
-        let (found, rest) = parse_vars(alloc, rest, room)?;
-        Ok((Item::Vars(keep, found), rest))
-    } else if is_word(rest.tokens, "void") {
-        let (_, rest) = take(rest, room)?;
-        let (name, place, rest) = parse_name(alloc, rest, room)?;
-        parse_fun(alloc, CType::Void, 0, name, place, rest, room)
+    if let Some(keep) = keep_of(cursor) {
+        cursor.take()?;
+        Ok(Item::Vars(keep, parse_vars(alloc, cursor)?))
+    } else if cursor.is_word(VOID) {
+        cursor.take()?;
+        let (name, place) = parse_name(alloc, cursor)?;
+        let head = Head {
+            base: CType::Void,
+            stars: 0,
+            name,
+            place,
+        };
+        parse_fun(alloc, head, cursor)
     } else {
-        parse_typed(alloc, rest, room)
+        parse_typed(alloc, cursor)
     }
 }
 
 /// An item that begins with a base.
-fn parse_typed(alloc: Global, rest: Rest, room: u32) -> Result<(Item, Rest), ParseFault>
-    requires { room ≤ 201 }
-    ensures { Gives (λ x. (view.item_of x.0, x.1.tokens.now)) result
-        (read.typed room rest.entry.tokens.now) }
+fn parse_typed(alloc: Global, cursor: &mut Cursor) -> Result<Item, ParseFault>
+    ensures { Reads view.item_of result cursor.old cursor.new read.typed }
 {
-    let (base, rest) = parse_base(rest, room)?;
-    let (stars, inner, rest) = parse_stars(rest, room)?;
-    let (name, place, rest) = parse_name(alloc, rest, inner)?;
-    if is_sign(rest.tokens, *b"(\0\0") {
-        parse_fun(alloc, base, stars, name, place, rest, inner)
-    } else {
-        parse_globals(alloc, base, stars, name, place, rest, inner, room)
-    }
-}
-
-/// Globals, behind the name of the first, where `inner` is the room.
-fn parse_globals(
-    alloc: Global,
-    base: CType,
-    stars: u32,
-    name: Name,
-    place: Place,
-    rest: Rest,
-    inner: u32,
-    room: u32,
-) -> Result<(Item, Rest), ParseFault>
-    requires inner { inner ≤ 201 }
-    requires room { room ≤ 201 }
-    ensures { Gives (λ x. (view.item_of x.0, x.1.tokens.now)) result
-        (read.globals (view.ty_of base) stars name place inner room rest.entry.tokens.now) }
-{
-    let again = base.again(alloc)?;
-    let (first, rest) = parse_behind_name(alloc, again, stars, name, place, rest, inner)?;
-    let (found, rest) = parse_more_vars(alloc, &base, first, rest, room)?;
-    Ok((Item::Vars(Keep::Shared, found), rest))
-}
-
-/// A function, behind its name.
-fn parse_fun(
-    alloc: Global,
-    base: CType,
-    stars: u32,
-    name: Name,
-    place: Place,
-    rest: Rest,
-    room: u32,
-) -> Result<(Item, Rest), ParseFault>
-    requires { room ≤ 201 }
-    ensures { Gives (λ x. (view.item_of x.0, x.1.tokens.now)) result
-        (read.function (view.ty_of base) stars name place room rest.entry.tokens.now) }
-{
-    let (_, rest) = expect(*b"(\0\0", rest, room)?;
-    let (params, rest) = parse_params(alloc, rest, room)?;
-    let (body, rest) = parse_fun_body(alloc, rest, room)?;
-    let found = Fun {
+    let room = cursor.room;
+    let base = parse_base(cursor)?;
+    let stars = parse_stars(cursor)?;
+    let (name, place) = parse_name(alloc, cursor)?;
+    let head = Head {
         base,
         stars,
         name,
         place,
+    };
+    if cursor.is_sign(PARENTHESIS_OPEN) {
+        let found = parse_fun(alloc, head, cursor)?;
+        cursor.room = room;
+        Ok(found)
+    } else {
+        let base = head.base.again(alloc)?;
+        let first = parse_after_name(alloc, head, cursor)?;
+        cursor.room = room;
+        let found = parse_more_vars(alloc, &base, first, cursor)?;
+        Ok(Item::Vars(Keep::Shared, found))
+    }
+}
+
+/// A function, after its name.
+fn parse_fun(alloc: Global, head: Head, cursor: &mut Cursor) -> Result<Item, ParseFault>
+    ensures { Reads view.item_of result cursor.old cursor.new
+        (read.function (view.ty_of head.base) head.stars head.name head.place) }
+{
+    cursor.expect(PARENTHESIS_OPEN)?;
+    let params = parse_params(alloc, cursor)?;
+    let body = parse_fun_body(alloc, cursor)?;
+    Ok(Item::Fun(Fun {
+        base: head.base,
+        stars: head.stars,
+        name: head.name,
+        place: head.place,
         params,
         body,
-    };
-    Ok((Item::Fun(found), rest))
+    }))
 }
 
 /// The body of a function, or a semicolon in its place.
-fn parse_fun_body(
-    alloc: Global,
-    rest: Rest,
-    room: u32,
-) -> Result<(Option<Vec<Stmt>>, Rest), ParseFault>
-    requires { room ≤ 201 }
-    ensures { Gives (λ x. (option_map (λ ss. map view.stmt_of ss.items) x.0, x.1.tokens.now))
-        result (read.function_body room rest.entry.tokens.now) }
+fn parse_fun_body(alloc: Global, cursor: &mut Cursor) -> Result<Option<Vec<Stmt>>, ParseFault>
+    ensures { Reads (option_map (λ body. map view.stmt_of body.items)) result
+        cursor.old cursor.new read.function_body }
 {
-    if is_sign(rest.tokens, *b";\0\0") {
-        let (_, rest) = take(rest, room)?;
-        Ok((None, rest))
+    if cursor.is_sign(SEMICOLON) {
+        cursor.take()?;
+        Ok(None)
     } else {
-        let (_, rest) = expect(*b"{\0\0", rest, room)?;
-        let (found, rest) = parse_body(alloc, rest, room)?;
-        Ok((Some(found), rest))
+        cursor.expect(BRACE_OPEN)?;
+        Ok(Some(parse_body(alloc, cursor)?))
     }
 }

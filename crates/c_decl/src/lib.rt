@@ -9,7 +9,7 @@ mod marker;
 mod node;
 mod opening;
 mod parameter;
-mod rest;
+mod reserved;
 mod statement;
 mod unit;
 

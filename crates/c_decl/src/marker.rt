@@ -1,104 +1,86 @@
 //! Markers.
 
-ghost use Rattle.c_expr.specs.Next.{Gives, Reads};
+ghost use Rattle.c_expr.specs.Reads.{Reads, ReadsInPlace};
 ghost use Rattle.c_decl.specs.private.StatementReading as read;
 
 use crate::declarator::parse_name;
-use crate::rest::{Rest, expect, take};
-use c_expr::{ParseFault, is_word, place_of};
-use c_token::{Kind, Token};
+use crate::reserved::{BEGIN_PPR, END_PPR, POST, WAIT};
+use c_expr::punctuator::{COMMA, PARENTHESIS_CLOSE, PARENTHESIS_OPEN, SEMICOLON};
+use c_expr::{Cursor, ParseFault};
+use c_token::Kind;
 use c_tree::{Count, Marker};
 use std::alloc::Global;
 
 /// A number.
-fn parse_number(rest: Rest, room: u32) -> Result<(u32, Rest), ParseFault>
-    ensures { Reads (λ x. (x.0, x.1.tokens.now)) result (read.number room rest.entry.tokens.now) }
+fn parse_number(cursor: &mut Cursor) -> Result<u32, ParseFault>
+    ensures { ReadsInPlace (λ n. n) result cursor.old cursor.new read.number }
 {
-    match rest.tokens {
-        [
-            Token {
-                kind: Kind::Number(_, value),
-                ..
-            },
-            ..
-        ] => {
-            let (_, rest) = take(rest, room)?;
-            Ok((*value, rest))
+    match cursor.kind() {
+        Some(Kind::Number(_, value)) => {
+            cursor.take()?;
+            Ok(*value)
         }
-        _ => Err(ParseFault::Unexpected(place_of(rest.tokens))),
+        _ => Err(cursor.unexpected()),
     }
 }
 
 /// How many bytes a post sends.
-fn parse_count(alloc: Global, rest: Rest, room: u32) -> Result<(Count, Rest), ParseFault>
-    ensures { Gives (λ x. (x.0, x.1.tokens.now)) result (read.count_of room rest.entry.tokens.now) }
+fn parse_count(alloc: Global, cursor: &mut Cursor) -> Result<Count, ParseFault>
+    ensures { Reads (λ count. count) result cursor.old cursor.new read.count_of }
 {
-    match rest.tokens {
-        [
-            Token {
-                kind: Kind::Number(_, value),
-                ..
-            },
-            ..
-        ] => {
-            let (_, rest) = take(rest, room)?;
-            Ok((Count::Number(*value), rest))
+    match cursor.kind() {
+        Some(Kind::Number(_, value)) => {
+            cursor.take()?;
+            Ok(Count::Number(*value))
         }
         _ => {
-            let (name, place, rest) = parse_name(alloc, rest, room)?;
-            Ok((Count::Name(name, place), rest))
+            let (name, place) = parse_name(alloc, cursor)?;
+            Ok(Count::Name(name, place))
         }
     }
 }
 
 /// A marker's number, with what stands round it.
-fn parse_numbered(rest: Rest, room: u32) -> Result<(u32, Rest), ParseFault>
-    ensures { Reads (λ x. (x.0, x.1.tokens.now)) result (read.numbered room rest.entry.tokens.now) }
+fn parse_numbered(cursor: &mut Cursor) -> Result<u32, ParseFault>
+    ensures { ReadsInPlace (λ n. n) result cursor.old cursor.new read.numbered }
 {
-    let (_, rest) = take(rest, room)?;
-    let (_, rest) = expect(*b"(\0\0", rest, room)?;
-    let (value, rest) = parse_number(rest, room)?;
-    let (_, rest) = expect(*b")\0\0", rest, room)?;
-    let (_, rest) = expect(*b";\0\0", rest, room)?;
-    Ok((value, rest))
+    cursor.take()?;
+    cursor.expect(PARENTHESIS_OPEN)?;
+    let value = parse_number(cursor)?;
+    cursor.expect(PARENTHESIS_CLOSE)?;
+    cursor.expect(SEMICOLON)?;
+    Ok(value)
 }
 
-/// A post, behind its word.
-fn parse_post(alloc: Global, rest: Rest, room: u32) -> Result<(Marker, Rest), ParseFault>
-    ensures { Gives (λ x. (x.0, x.1.tokens.now)) result (read.post room rest.entry.tokens.now) }
+/// A post, after its word.
+fn parse_post(alloc: Global, cursor: &mut Cursor) -> Result<Marker, ParseFault>
+    ensures { Reads (λ marker. marker) result cursor.old cursor.new read.post }
 {
-    let (_, rest) = expect(*b"(\0\0", rest, room)?;
-    let (channel, rest) = parse_number(rest, room)?;
-    let (_, rest) = expect(*b",\0\0", rest, room)?;
-    let (sent, place, rest) = parse_name(alloc, rest, room)?;
-    let (_, rest) = expect(*b",\0\0", rest, room)?;
-    let (count, rest) = parse_count(alloc, rest, room)?;
-    let (_, rest) = expect(*b")\0\0", rest, room)?;
-    let (_, rest) = expect(*b";\0\0", rest, room)?;
-    Ok((Marker::Post(channel, sent, place, count), rest))
+    cursor.expect(PARENTHESIS_OPEN)?;
+    let channel = parse_number(cursor)?;
+    cursor.expect(COMMA)?;
+    let (sent, place) = parse_name(alloc, cursor)?;
+    cursor.expect(COMMA)?;
+    let count = parse_count(alloc, cursor)?;
+    cursor.expect(PARENTHESIS_CLOSE)?;
+    cursor.expect(SEMICOLON)?;
+    Ok(Marker::Post(channel, sent, place, count))
 }
 
 /// A marker, through its semicolon.
-pub(crate) fn parse_marker(
-    alloc: Global,
-    rest: Rest,
-    room: u32,
-) -> Result<(Marker, Rest), ParseFault>
-    ensures { Gives (λ x. (x.0, x.1.tokens.now)) result (read.marker room rest.entry.tokens.now) }
+pub(crate) fn parse_marker(alloc: Global, cursor: &mut Cursor) -> Result<Marker, ParseFault>
+    ensures { Reads (λ marker. marker) result cursor.old cursor.new read.marker }
 {
-    if is_word(rest.tokens, "BeginPPR") {
-        let (value, rest) = parse_numbered(rest, room)?;
-        Ok((Marker::Begin(value), rest))
-    } else if is_word(rest.tokens, "EndPPR") {
-        let (value, rest) = parse_numbered(rest, room)?;
-        Ok((Marker::End(value), rest))
-    } else if is_word(rest.tokens, "Wait") {
-        let (value, rest) = parse_numbered(rest, room)?;
-        Ok((Marker::Wait(value), rest))
-    } else if is_word(rest.tokens, "Post") {
-        let (_, rest) = take(rest, room)?;
-        parse_post(alloc, rest, room)
+    if cursor.is_word(BEGIN_PPR) {
+        Ok(Marker::Begin(parse_numbered(cursor)?))
+    } else if cursor.is_word(END_PPR) {
+        Ok(Marker::End(parse_numbered(cursor)?))
+    } else if cursor.is_word(WAIT) {
+        Ok(Marker::Wait(parse_numbered(cursor)?))
+    } else if cursor.is_word(POST) {
+        cursor.take()?;
+        parse_post(alloc, cursor)
     } else {
-        Err(ParseFault::Unexpected(place_of(rest.tokens)))
+        Err(cursor.unexpected())
     }
 }

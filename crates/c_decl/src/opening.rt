@@ -4,8 +4,11 @@ ghost use Rattle.std.specs.Prelude.{◌≡◌};
 ghost use Rattle.c_expr.specs.Next.{kind_of};
 ghost use Rattle.c_decl.specs.private.StatementReading as read;
 
-use c_expr::{ParseFault, begins, is_sign, is_word, place_of};
-use c_token::Token;
+use crate::reserved::{
+    BEGIN_PPR, BREAK, CONTINUE, DO, END_PPR, FOR, IF, POST, RETURN, WAIT, WHILE,
+};
+use c_expr::punctuator::{BRACE_OPEN, SEMICOLON};
+use c_expr::{Cursor, ParseFault, begins};
 
 /// The form of a statement that begins with a word or sign of its own.
 #[derive(Clone, Copy)]
@@ -23,31 +26,31 @@ pub(crate) enum Opening {
 }
 
 /// The form that the next token says; none begins an expression statement or no statement.
-pub(crate) fn opening_of(rest: &[Token]) -> Option<Opening>
-    ensures { result ≡ read.opening_of (kind_of rest.now) }
+pub(crate) fn opening_of(cursor: &Cursor) -> Option<Opening>
+    ensures { result ≡ read.opening_of (kind_of cursor.now.tokens.now) }
 {
-    if is_sign(rest, *b";\0\0") {
+    if cursor.is_sign(SEMICOLON) {
         Some(Opening::Empty)
-    } else if is_sign(rest, *b"{\0\0") {
+    } else if cursor.is_sign(BRACE_OPEN) {
         Some(Opening::Block)
-    } else if is_word(rest, "if") {
+    } else if cursor.is_word(IF) {
         Some(Opening::If)
-    } else if is_word(rest, "while") {
+    } else if cursor.is_word(WHILE) {
         Some(Opening::While)
-    } else if is_word(rest, "do") {
+    } else if cursor.is_word(DO) {
         Some(Opening::Do)
-    } else if is_word(rest, "for") {
+    } else if cursor.is_word(FOR) {
         Some(Opening::For)
-    } else if is_word(rest, "return") {
+    } else if cursor.is_word(RETURN) {
         Some(Opening::Return)
-    } else if is_word(rest, "break") {
+    } else if cursor.is_word(BREAK) {
         Some(Opening::Break)
-    } else if is_word(rest, "continue") {
+    } else if cursor.is_word(CONTINUE) {
         Some(Opening::Continue)
-    } else if is_word(rest, "BeginPPR")
-        || is_word(rest, "EndPPR")
-        || is_word(rest, "Wait")
-        || is_word(rest, "Post")
+    } else if cursor.is_word(BEGIN_PPR)
+        || cursor.is_word(END_PPR)
+        || cursor.is_word(WAIT)
+        || cursor.is_word(POST)
     {
         Some(Opening::Marker)
     } else {
@@ -56,12 +59,12 @@ pub(crate) fn opening_of(rest: &[Token]) -> Option<Opening>
 }
 
 /// Where no statement may be opened any more.
-pub(crate) fn fault_at_start(rest: &[Token]) -> ParseFault
-    ensures { result ≡ read.fault_at_statement rest.now }
+pub(crate) fn fault_at_start(cursor: &Cursor) -> ParseFault
+    ensures { result ≡ read.fault_at_statement cursor.now.tokens.now }
 {
-    if opening_of(rest).is_some() || begins(rest) {
-        ParseFault::TooDeep(place_of(rest))
+    if opening_of(cursor).is_some() || begins(cursor) {
+        ParseFault::TooDeep(cursor.place())
     } else {
-        ParseFault::Unexpected(place_of(rest))
+        cursor.unexpected()
     }
 }

@@ -2,26 +2,29 @@
 
 ghost use Rattle.std.specs.Prelude.{map};
 ghost use Rattle.c_tree.specs.View as view;
-ghost use Rattle.c_expr.specs.Next.{Gives, Reads};
+ghost use Rattle.c_expr.specs.Reads.{Reads, ReadsInPlace};
 ghost use Rattle.c_decl.specs.private.DeclarationReading as read;
 
 use crate::declarator::parse_stars;
-use crate::rest::{Rest, expect, parse_base, take};
-use c_expr::{ParseFault, is_sign, is_word, place_of};
-use c_token::{Kind, Token};
-use c_tree::{CType, Name, Param, Place};
+use crate::reserved::VOID;
+use c_expr::punctuator::{BRACKET_CLOSE, BRACKET_OPEN, COMMA, PARENTHESIS_CLOSE};
+use c_expr::{Cursor, ParseFault, parse_base};
+use c_token::Kind;
+use c_tree::{Name, Param, Place};
 use std::alloc::Global;
 
 /// Whether `[]` stands next, which is read.
-fn parse_brackets(rest: Rest, room: u32) -> Result<(bool, Rest), ParseFault>
-    ensures { Reads (λ x. (x.0, x.1.tokens.now)) result (read.brackets room rest.entry.tokens.now) }
+fn parse_brackets(cursor: &mut Cursor) -> Result<bool, ParseFault>
+    ensures { ReadsInPlace (λ array. array) result cursor.old cursor.new read.brackets }
 {
-    if is_sign(rest.tokens, *b"[\0\0") {
-        let (_, rest) = take(rest, room)?;
-        let (_, rest) = expect(*b"]\0\0", rest, room - 1)?;
-        Ok((true, rest))
+    if cursor.is_sign(BRACKET_OPEN) {
+        cursor.take()?;
+        cursor.room -= 1;
+        cursor.expect(BRACKET_CLOSE)?;
+        cursor.room += 1;
+        Ok(true)
     } else {
-        Ok((false, rest))
+        Ok(false)
     }
 }
 
@@ -29,99 +32,71 @@ fn parse_brackets(rest: Rest, room: u32) -> Result<(bool, Rest), ParseFault>
 fn parse_own_name(
     alloc: Global,
     first: Place,
-    rest: Rest,
-    room: u32,
-) -> Result<(Option<Name>, Place, Rest), ParseFault>
-    ensures { Gives (λ x. ((x.0, x.1), x.2.tokens.now)) result
-        (read.own_name first room rest.entry.tokens.now) }
+    cursor: &mut Cursor,
+) -> Result<(Option<Name>, Place), ParseFault>
+    ensures { Reads (λ x. x) result cursor.old cursor.new (read.own_name first) }
 {
-    match rest.tokens {
-        [
-            Token {
-                kind: Kind::Name(name),
-                ..
-            },
-            ..
-        ] => {
-            let (found, rest) = take(rest, room)?;
-            Ok((Some(name.again(alloc)?), found.place, rest))
+    match cursor.kind() {
+        Some(Kind::Name(name)) => {
+            let place = cursor.take()?.place;
+            Ok((Some(name.again(alloc)?), place))
         }
-        _ => Ok((None, first, rest)),
+        _ => Ok((None, first)),
     }
 }
 
 /// A parameter.
-fn parse_param(alloc: Global, rest: Rest, room: u32) -> Result<(Param, Rest), ParseFault>
-    ensures { Gives (λ x. (view.param_of x.0, x.1.tokens.now)) result
-        (read.parameter room rest.entry.tokens.now) }
+fn parse_param(alloc: Global, cursor: &mut Cursor) -> Result<Param, ParseFault>
+    ensures { Reads view.param_of result cursor.old cursor.new read.parameter }
 {
-    let first = place_of(rest.tokens);
-    let (base, rest) = parse_base(rest, room)?;
-    let (stars, room, rest) = parse_stars(rest, room)?;
-    parse_behind_stars(alloc, base, stars, first, rest, room)
-}
-
-fn parse_behind_stars(
-    alloc: Global,
-    base: CType,
-    stars: u32,
-    first: Place,
-    rest: Rest,
-    room: u32,
-) -> Result<(Param, Rest), ParseFault>
-    ensures { Gives (λ x. (view.param_of x.0, x.1.tokens.now)) result
-        (read.behind_stars (view.ty_of base) stars first room rest.entry.tokens.now) }
-{
-    let (name, place, rest) = parse_own_name(alloc, first, rest, room)?;
-    let (array, rest) = parse_brackets(rest, room)?;
-    let found = Param {
+    let room = cursor.room;
+    let first = cursor.place();
+    let base = parse_base(cursor)?;
+    let stars = parse_stars(cursor)?;
+    let (name, place) = parse_own_name(alloc, first, cursor)?;
+    let array = parse_brackets(cursor)?;
+    cursor.room = room;
+    Ok(Param {
         base,
         stars,
         name,
         place,
         array,
-    };
-    Ok((found, rest))
+    })
 }
 
 /// The parameters of a function, through the closing parenthesis.
-pub(crate) fn parse_params(
-    alloc: Global,
-    rest: Rest,
-    room: u32,
-) -> Result<(Vec<Param>, Rest), ParseFault>
-    ensures { Gives (λ x. (map view.param_of x.0.items, x.1.tokens.now)) result
-        (read.parameters room rest.entry.tokens.now) }
+pub(crate) fn parse_params(alloc: Global, cursor: &mut Cursor) -> Result<Vec<Param>, ParseFault>
+    ensures { Reads (λ found. map view.param_of found.items) result cursor.old cursor.new
+        read.parameters }
 {
-    if is_sign(rest.tokens, *b")\0\0") {
-        let (_, rest) = take(rest, room)?;
-        Ok((Vec::new(alloc), rest))
-    } else if is_word(rest.tokens, "void") {
-        let (_, rest) = take(rest, room)?;
-        let (_, rest) = expect(*b")\0\0", rest, room)?;
-        Ok((Vec::new(alloc), rest))
+    if cursor.is_sign(PARENTHESIS_CLOSE) {
+        cursor.take()?;
+        Ok(Vec::new(alloc))
+    } else if cursor.is_word(VOID) {
+        cursor.take()?;
+        cursor.expect(PARENTHESIS_CLOSE)?;
+        Ok(Vec::new(alloc))
     } else {
-        parse_param_list(alloc, rest, room)
+        parse_param_list(alloc, cursor)
     }
 }
 
 /// Parameters with commas between them, and the closing parenthesis.
-fn parse_param_list(alloc: Global, whole: Rest, room: u32) -> Result<(Vec<Param>, Rest), ParseFault>
-    ensures { Gives (λ x. (map view.param_of x.0.items, x.1.tokens.now)) result
-        (read.parameter_list room whole.entry.tokens.now) }
+fn parse_param_list(alloc: Global, cursor: &mut Cursor) -> Result<Vec<Param>, ParseFault>
+    ensures { Reads (λ found. map view.param_of found.items) result cursor.old cursor.new
+        read.parameter_list }
 {
     let mut found = Vec::new(alloc);
-    let mut rest = whole;
-    for _ in 0..whole.tokens.len() {
-        let (one, after) = parse_param(alloc, rest, room)?;
+    for _ in 0..cursor.tokens.len() {
+        let one = parse_param(alloc, cursor)?;
         found.push(one)?;
-        if is_sign(after.tokens, *b",\0\0") {
-            let (_, after) = take(after, room)?;
-            rest = after;
+        if cursor.is_sign(COMMA) {
+            cursor.take()?;
         } else {
-            let (_, after) = expect(*b")\0\0", after, room)?;
-            return Ok((found, after));
+            cursor.expect(PARENTHESIS_CLOSE)?;
+            return Ok(found);
         }
     }
-    Err(ParseFault::Unexpected(place_of(rest.tokens)))
+    Err(cursor.unexpected())
 }

@@ -1,10 +1,9 @@
-//! Statements (C11 6.8). Each function reads from the front of the tokens, and answers what it read and what is left.
+//! Statements (C11 6.8). Each function reads where the cursor is, and answers what it read.
 
-ghost use Rattle.std.specs.Prelude.{◌≤◌, map, option_map};
+ghost use Rattle.std.specs.Prelude.{map, option_map};
 ghost use Rattle.c_tree.specs.View as view;
 ghost use Rattle.c_token.specs.declared.token.Kind.TheVariants as k;
-ghost use Rattle.c_expr.specs.Next as next;
-ghost use Rattle.c_expr.specs.Next.{Gives, Reads};
+ghost use Rattle.c_expr.specs.Reads.{Reads, ReadsInPlace};
 ghost use Rattle.c_decl.specs.private.StatementReading as read;
 
 use crate::declarator::parse_vars;
@@ -12,9 +11,9 @@ use crate::expression::parse_assign;
 use crate::marker::parse_marker;
 use crate::node;
 use crate::opening::{Opening, fault_at_start, opening_of};
-use crate::rest::{Rest, expect, take};
-use c_expr::{ParseFault, is_base, is_sign, is_word, place_of};
-use c_token::Token;
+use crate::reserved::{ELSE, WHILE};
+use c_expr::punctuator::{BRACE_CLOSE, PARENTHESIS_CLOSE, PARENTHESIS_OPEN, SEMICOLON};
+use c_expr::{Cursor, ParseFault, is_base};
 use c_tree::{Expr, First, Place, Stmt};
 use std::alloc::Global;
 
@@ -22,211 +21,175 @@ use std::alloc::Global;
 fn parse_optional(
     alloc: Global,
     closer: [u8; 3],
-    rest: Rest,
-    room: u32,
-) -> Result<(Option<Expr>, Rest), ParseFault>
-    requires { room ≤ 201 }
-    ensures { Gives (λ x. (option_map view.expr_of x.0, x.1.tokens.now)) result
-        (read.optional (k.Sign closer) room rest.entry.tokens.now) }
+    cursor: &mut Cursor,
+) -> Result<Option<Expr>, ParseFault>
+    ensures { Reads (option_map view.expr_of) result cursor.old cursor.new
+        (read.optional (k.Sign closer)) }
 {
-    if is_sign(rest.tokens, closer) {
-        let (_, rest) = take(rest, room)?;
-        Ok((None, rest))
+    if cursor.is_sign(closer) {
+        cursor.take()?;
+        Ok(None)
     } else {
-        let (value, rest) = parse_assign(alloc, rest, room)?;
-        let (_, rest) = expect(closer, rest, room)?;
-        Ok((Some(value), rest))
+        let value = parse_assign(alloc, cursor)?;
+        cursor.expect(closer)?;
+        Ok(Some(value))
     }
 }
 
 /// What a `for` begins with, through the first semicolon.
-fn parse_first(alloc: Global, rest: Rest, room: u32) -> Result<(First, Rest), ParseFault>
-    requires { room ≤ 201 }
-    ensures { Gives (λ x. (view.first_of x.0, x.1.tokens.now)) result
-        (read.beginning room rest.entry.tokens.now) }
+fn parse_first(alloc: Global, cursor: &mut Cursor) -> Result<First, ParseFault>
+    ensures { Reads view.first_of result cursor.old cursor.new read.beginning }
 {
-    if is_sign(rest.tokens, *b";\0\0") {
-        let (_, rest) = take(rest, room)?;
-        Ok((First::Nothing, rest))
-    } else if is_base(rest.tokens) {
-        let (found, rest) = parse_vars(alloc, rest, room)?;
-        Ok((First::Vars(found), rest))
+    if cursor.is_sign(SEMICOLON) {
+        cursor.take()?;
+        Ok(First::Nothing)
+    } else if is_base(cursor) {
+        Ok(First::Vars(parse_vars(alloc, cursor)?))
     } else {
-        let (value, rest) = parse_assign(alloc, rest, room)?;
-        let (_, rest) = expect(*b";\0\0", rest, room)?;
-        Ok((First::Expr(value), rest))
+        let value = parse_assign(alloc, cursor)?;
+        cursor.expect(SEMICOLON)?;
+        Ok(First::Expr(value))
     }
 }
 
 /// An expression in parentheses.
-fn parse_test(alloc: Global, rest: Rest, room: u32) -> Result<(Expr, Rest), ParseFault>
-    requires { room ≤ 201 }
-    ensures { Gives (λ x. (view.expr_of x.0, x.1.tokens.now)) result
-        (read.test room rest.entry.tokens.now) }
+fn parse_test(alloc: Global, cursor: &mut Cursor) -> Result<Expr, ParseFault>
+    ensures { Reads view.expr_of result cursor.old cursor.new read.test }
 {
-    let (_, rest) = expect(*b"(\0\0", rest, room)?;
-    let (value, rest) = parse_assign(alloc, rest, room)?;
-    let (_, rest) = expect(*b")\0\0", rest, room)?;
-    Ok((value, rest))
+    cursor.expect(PARENTHESIS_OPEN)?;
+    let value = parse_assign(alloc, cursor)?;
+    cursor.expect(PARENTHESIS_CLOSE)?;
+    Ok(value)
 }
 
-/// An expression statement (C11 6.8.3), whose first token stands at this place.
-fn parse_expr_stmt(
-    alloc: Global,
-    place: Place,
-    rest: Rest,
-    room: u32,
-) -> Result<(Stmt, Rest), ParseFault>
-    requires { room ≤ 201 }
-    ensures { Gives (λ x. (view.stmt_of x.0, x.1.tokens.now)) result
-        (read.expression_at place room rest.entry.tokens.now) }
+/// An expression statement (C11 6.8.3).
+fn parse_expr_stmt(alloc: Global, cursor: &mut Cursor) -> Result<Stmt, ParseFault>
+    ensures { Reads view.stmt_of result cursor.old cursor.new read.expr_stmt }
 {
-    let (value, rest) = parse_assign(alloc, rest, room)?;
-    let (_, rest) = expect(*b";\0\0", rest, room)?;
-    Ok((node::build_expr(value, place), rest))
+    let place = cursor.place();
+    let value = parse_assign(alloc, cursor)?;
+    cursor.expect(SEMICOLON)?;
+    Ok(node::build_expr(value, place))
 }
 
-/// A declaration, whose first token stands at this place.
-fn parse_vars_stmt(
-    alloc: Global,
-    place: Place,
-    rest: Rest,
-    room: u32,
-) -> Result<(Stmt, Rest), ParseFault>
-    requires { room ≤ 201 }
-    ensures { Gives (λ x. (view.stmt_of x.0, x.1.tokens.now)) result
-        (read.declaration_at place room rest.entry.tokens.now) }
+/// A declaration.
+fn parse_vars_stmt(alloc: Global, cursor: &mut Cursor) -> Result<Stmt, ParseFault>
+    ensures { Reads view.stmt_of result cursor.old cursor.new read.vars_stmt }
 {
-    let (found, rest) = parse_vars(alloc, rest, room)?;
-    Ok((node::build_vars(found, place), rest))
+    let place = cursor.place();
+    let found = parse_vars(alloc, cursor)?;
+    Ok(node::build_vars(found, place))
 }
 
-/// A marker, whose first token stands at this place.
-fn parse_marker_stmt(
-    alloc: Global,
-    place: Place,
-    rest: Rest,
-    room: u32,
-) -> Result<(Stmt, Rest), ParseFault>
-    ensures { Gives (λ x. (view.stmt_of x.0, x.1.tokens.now)) result
-        (read.marker_at place room rest.entry.tokens.now) }
+/// A marker.
+fn parse_marker_stmt(alloc: Global, cursor: &mut Cursor) -> Result<Stmt, ParseFault>
+    ensures { Reads view.stmt_of result cursor.old cursor.new read.marker_stmt }
 {
-    let (found, rest) = parse_marker(alloc, rest, room)?;
-    Ok((node::build_marker(found, place), rest))
+    let place = cursor.place();
+    let found = parse_marker(alloc, cursor)?;
+    Ok(node::build_marker(found, place))
 }
 
 /// An empty statement (C11 6.8.3).
-fn parse_empty(rest: Rest, room: u32) -> Result<(Stmt, Rest), ParseFault>
-    ensures { Reads (λ x. (view.stmt_of x.0, x.1.tokens.now)) result
-        (read.empty room rest.entry.tokens.now) }
+fn parse_empty(cursor: &mut Cursor) -> Result<Stmt, ParseFault>
+    ensures { ReadsInPlace view.stmt_of result cursor.old cursor.new read.empty }
 {
-    let (sign, rest) = take(rest, room)?;
-    Ok((node::build_empty(sign.place), rest))
+    let place = cursor.take()?.place;
+    Ok(node::build_empty(place))
 }
 
 /// A `return` (C11 6.8.6.4).
-fn parse_return(alloc: Global, rest: Rest, room: u32) -> Result<(Stmt, Rest), ParseFault>
-    requires { room ≤ 201 }
-    ensures { Gives (λ x. (view.stmt_of x.0, x.1.tokens.now)) result
-        (read.return_stmt room rest.entry.tokens.now) }
+fn parse_return(alloc: Global, cursor: &mut Cursor) -> Result<Stmt, ParseFault>
+    ensures { Reads view.stmt_of result cursor.old cursor.new read.return_stmt }
 {
-    let (word, rest) = take(rest, room)?;
-    let (value, rest) = parse_optional(alloc, *b";\0\0", rest, room)?;
-    Ok((node::build_return(value, word.place), rest))
+    let place = cursor.take()?.place;
+    let value = parse_optional(alloc, SEMICOLON, cursor)?;
+    Ok(node::build_return(value, place))
 }
 
 /// A `break` (C11 6.8.6.3).
-fn parse_break(rest: Rest, room: u32) -> Result<(Stmt, Rest), ParseFault>
-    ensures { Reads (λ x. (view.stmt_of x.0, x.1.tokens.now)) result
-        (read.break_stmt room rest.entry.tokens.now) }
+fn parse_break(cursor: &mut Cursor) -> Result<Stmt, ParseFault>
+    ensures { ReadsInPlace view.stmt_of result cursor.old cursor.new read.break_stmt }
 {
-    let (word, rest) = take(rest, room)?;
-    let (_, rest) = expect(*b";\0\0", rest, room)?;
-    Ok((node::build_break(word.place), rest))
+    let place = cursor.take()?.place;
+    cursor.expect(SEMICOLON)?;
+    Ok(node::build_break(place))
 }
 
 /// A `continue` (C11 6.8.6.2).
-fn parse_continue(rest: Rest, room: u32) -> Result<(Stmt, Rest), ParseFault>
-    ensures { Reads (λ x. (view.stmt_of x.0, x.1.tokens.now)) result
-        (read.continue_stmt room rest.entry.tokens.now) }
+fn parse_continue(cursor: &mut Cursor) -> Result<Stmt, ParseFault>
+    ensures { ReadsInPlace view.stmt_of result cursor.old cursor.new read.continue_stmt }
 {
-    let (word, rest) = take(rest, room)?;
-    let (_, rest) = expect(*b";\0\0", rest, room)?;
-    Ok((node::build_continue(word.place), rest))
+    let place = cursor.take()?.place;
+    cursor.expect(SEMICOLON)?;
+    Ok(node::build_continue(place))
 }
 
 /// Opens a statement, which adds a level.
 #[tactic(auto, using(crate::proofs::Nested::stated_open, crate::proofs::Nested::stated_stop))]
 #[cycle(statements)]
-fn parse_stmt(alloc: Global, rest: Rest, room: u32) -> Result<(Stmt, Rest), ParseFault>
-    requires { room ≤ 201 }
-    ensures { Gives (λ x. (view.stmt_of x.0, x.1.tokens.now)) result
-        (read.stated room rest.entry.tokens.now) }
+fn parse_stmt(alloc: Global, cursor: &mut Cursor) -> Result<Stmt, ParseFault>
+    ensures { Reads view.stmt_of result cursor.old cursor.new read.stated }
 {
-    if room == 0 {
-        return Err(fault_at_start(rest.tokens));
+    if cursor.room == 0 {
+        return Err(fault_at_start(cursor));
     }
-    parse_opened(alloc, rest, room - 1)
+    cursor.room -= 1;
+    let found = parse_opened(alloc, cursor)?;
+    cursor.room += 1;
+    Ok(found)
 }
 
 #[tactic(auto, unfolding(crate::specs::private::StatementReading::opened))]
 #[cycle(statements)]
-fn parse_opened(alloc: Global, rest: Rest, room: u32) -> Result<(Stmt, Rest), ParseFault>
-    requires { room ≤ 201 }
-    ensures { Gives (λ x. (view.stmt_of x.0, x.1.tokens.now)) result
-        (read.opened read.stated room rest.entry.tokens.now) }
+fn parse_opened(alloc: Global, cursor: &mut Cursor) -> Result<Stmt, ParseFault>
+    ensures { Reads view.stmt_of result cursor.old cursor.new (read.opened read.stated) }
 {
-    match opening_of(rest.tokens) {
-        Some(Opening::Empty) => parse_empty(rest, room),
-        Some(Opening::Block) => parse_block(alloc, rest, room),
-        Some(Opening::If) => parse_if(alloc, rest, room),
-        Some(Opening::While) => parse_while(alloc, rest, room),
-        Some(Opening::Do) => parse_do(alloc, rest, room),
-        Some(Opening::For) => parse_for(alloc, rest, room),
-        Some(Opening::Return) => parse_return(alloc, rest, room),
-        Some(Opening::Break) => parse_break(rest, room),
-        Some(Opening::Continue) => parse_continue(rest, room),
-        Some(Opening::Marker) => parse_marker_stmt(alloc, place_of(rest.tokens), rest, room),
-        None => parse_expr_stmt(alloc, place_of(rest.tokens), rest, room),
+    match opening_of(cursor) {
+        Some(Opening::Empty) => parse_empty(cursor),
+        Some(Opening::Block) => parse_block(alloc, cursor),
+        Some(Opening::If) => parse_if(alloc, cursor),
+        Some(Opening::While) => parse_while(alloc, cursor),
+        Some(Opening::Do) => parse_do(alloc, cursor),
+        Some(Opening::For) => parse_for(alloc, cursor),
+        Some(Opening::Return) => parse_return(alloc, cursor),
+        Some(Opening::Break) => parse_break(cursor),
+        Some(Opening::Continue) => parse_continue(cursor),
+        Some(Opening::Marker) => parse_marker_stmt(alloc, cursor),
+        None => parse_expr_stmt(alloc, cursor),
     }
 }
 
 /// A block (C11 6.8.2).
 #[cycle(statements)]
-fn parse_block(alloc: Global, rest: Rest, room: u32) -> Result<(Stmt, Rest), ParseFault>
-    requires { room ≤ 201 }
-    ensures { Gives (λ x. (view.stmt_of x.0, x.1.tokens.now)) result
-        (read.block read.stated room rest.entry.tokens.now) }
+fn parse_block(alloc: Global, cursor: &mut Cursor) -> Result<Stmt, ParseFault>
+    ensures { Reads view.stmt_of result cursor.old cursor.new (read.block read.stated) }
 {
-    let (sign, rest) = take(rest, room)?;
-    let (found, rest) = parse_body(alloc, rest, room)?;
-    Ok((node::build_block(found, sign.place), rest))
+    let place = cursor.take()?.place;
+    let found = parse_body(alloc, cursor)?;
+    Ok(node::build_block(found, place))
 }
 
 /// A `while` (C11 6.8.5.1).
 #[cycle(statements)]
-fn parse_while(alloc: Global, rest: Rest, room: u32) -> Result<(Stmt, Rest), ParseFault>
-    requires { room ≤ 201 }
-    ensures { Gives (λ x. (view.stmt_of x.0, x.1.tokens.now)) result
-        (read.while_stmt read.stated room rest.entry.tokens.now) }
+fn parse_while(alloc: Global, cursor: &mut Cursor) -> Result<Stmt, ParseFault>
+    ensures { Reads view.stmt_of result cursor.old cursor.new (read.while_stmt read.stated) }
 {
-    let (word, rest) = take(rest, room)?;
-    let (test, rest) = parse_test(alloc, rest, room)?;
-    let (body, rest) = parse_stmt(alloc, rest, room)?;
-    Ok((node::build_while(alloc, test, body, word.place)?, rest))
+    let place = cursor.take()?.place;
+    let test = parse_test(alloc, cursor)?;
+    let body = parse_stmt(alloc, cursor)?;
+    Ok(node::build_while(alloc, test, body, place)?)
 }
 
 /// An `if` (C11 6.8.4.1).
 #[cycle(statements)]
-fn parse_if(alloc: Global, rest: Rest, room: u32) -> Result<(Stmt, Rest), ParseFault>
-    requires { room ≤ 201 }
-    ensures { Gives (λ x. (view.stmt_of x.0, x.1.tokens.now)) result
-        (read.if_stmt read.stated room rest.entry.tokens.now) }
+fn parse_if(alloc: Global, cursor: &mut Cursor) -> Result<Stmt, ParseFault>
+    ensures { Reads view.stmt_of result cursor.old cursor.new (read.if_stmt read.stated) }
 {
-    let (word, rest) = take(rest, room)?;
-    let (test, rest) = parse_test(alloc, rest, room)?;
-    let (then, rest) = parse_stmt(alloc, rest, room)?;
-    parse_else(alloc, test, then, word.place, rest, room)
+    let place = cursor.take()?.place;
+    let test = parse_test(alloc, cursor)?;
+    let then = parse_stmt(alloc, cursor)?;
+    parse_else(alloc, test, then, place, cursor)
 }
 
 /// What follows the first statement of an `if`.
@@ -236,108 +199,73 @@ fn parse_else(
     test: Expr,
     then: Stmt,
     place: Place,
-    rest: Rest,
-    room: u32,
-) -> Result<(Stmt, Rest), ParseFault>
-    requires { room ≤ 201 }
-    ensures { Gives (λ x. (view.stmt_of x.0, x.1.tokens.now)) result
-        (read.else_part read.stated (view.expr_of test)
-        (view.stmt_of then) place room rest.entry.tokens.now) }
+    cursor: &mut Cursor,
+) -> Result<Stmt, ParseFault>
+    ensures { Reads view.stmt_of result cursor.old cursor.new
+        (read.else_part read.stated (view.expr_of test) (view.stmt_of then) place) }
 {
-    if is_word(rest.tokens, "else") {
-        let (_, rest) = take(rest, room)?;
-        let (other, rest) = parse_stmt(alloc, rest, room)?;
-        Ok((node::build_if_else(alloc, test, then, other, place)?, rest))
+    if cursor.is_word(ELSE) {
+        cursor.take()?;
+        let other = parse_stmt(alloc, cursor)?;
+        Ok(node::build_if_else(alloc, test, then, other, place)?)
     } else {
-        Ok((node::build_if(alloc, test, then, place)?, rest))
+        Ok(node::build_if(alloc, test, then, place)?)
     }
 }
 
 /// A `do` (C11 6.8.5.2).
 #[cycle(statements)]
-fn parse_do(alloc: Global, rest: Rest, room: u32) -> Result<(Stmt, Rest), ParseFault>
-    requires { room ≤ 201 }
-    ensures { Gives (λ x. (view.stmt_of x.0, x.1.tokens.now)) result
-        (read.do_stmt read.stated room rest.entry.tokens.now) }
+fn parse_do(alloc: Global, cursor: &mut Cursor) -> Result<Stmt, ParseFault>
+    ensures { Reads view.stmt_of result cursor.old cursor.new (read.do_stmt read.stated) }
 {
-    let (word, rest) = take(rest, room)?;
-    let (body, rest) = parse_stmt(alloc, rest, room)?;
-    let (_, rest) = expect_word("while", rest, room)?;
-    let (test, rest) = parse_test(alloc, rest, room)?;
-    let (_, rest) = expect(*b";\0\0", rest, room)?;
-    Ok((node::build_do(alloc, body, test, word.place)?, rest))
-}
-
-/// Takes this reserved word.
-fn expect_word<'a>(
-    word: &str,
-    rest: Rest<'a>,
-    room: u32,
-) -> Result<(&'a Token, Rest<'a>), ParseFault>
-    ensures { Reads (λ x. (x.0.now, x.1.tokens.now)) result
-        (next.expect (k.Reserved word.now) room rest.entry.tokens.now) }
-{
-    if is_word(rest.tokens, word) {
-        take(rest, room)
-    } else {
-        Err(ParseFault::Unexpected(place_of(rest.tokens)))
-    }
+    let place = cursor.take()?.place;
+    let body = parse_stmt(alloc, cursor)?;
+    cursor.expect_word(WHILE)?;
+    let test = parse_test(alloc, cursor)?;
+    cursor.expect(SEMICOLON)?;
+    Ok(node::build_do(alloc, body, test, place)?)
 }
 
 /// A `for` (C11 6.8.5.3).
 #[cycle(statements)]
-fn parse_for(alloc: Global, rest: Rest, room: u32) -> Result<(Stmt, Rest), ParseFault>
-    requires { room ≤ 201 }
-    ensures { Gives (λ x. (view.stmt_of x.0, x.1.tokens.now)) result
-        (read.for_stmt read.stated room rest.entry.tokens.now) }
+fn parse_for(alloc: Global, cursor: &mut Cursor) -> Result<Stmt, ParseFault>
+    ensures { Reads view.stmt_of result cursor.old cursor.new (read.for_stmt read.stated) }
 {
-    let (word, rest) = take(rest, room)?;
-    let (_, rest) = expect(*b"(\0\0", rest, room)?;
-    let (first, rest) = parse_first(alloc, rest, room)?;
-    let (test, rest) = parse_optional(alloc, *b";\0\0", rest, room)?;
-    let (step, rest) = parse_optional(alloc, *b")\0\0", rest, room)?;
-    let (body, rest) = parse_stmt(alloc, rest, room)?;
-    Ok((
-        node::build_for(alloc, first, test, step, body, word.place)?,
-        rest,
-    ))
+    let place = cursor.take()?.place;
+    cursor.expect(PARENTHESIS_OPEN)?;
+    let first = parse_first(alloc, cursor)?;
+    let test = parse_optional(alloc, SEMICOLON, cursor)?;
+    let step = parse_optional(alloc, PARENTHESIS_CLOSE, cursor)?;
+    let body = parse_stmt(alloc, cursor)?;
+    Ok(node::build_for(alloc, first, test, step, body, place)?)
 }
 
 /// A declaration or a statement.
 #[cycle(statements)]
-fn parse_block_item(alloc: Global, rest: Rest, room: u32) -> Result<(Stmt, Rest), ParseFault>
-    requires { room ≤ 201 }
-    ensures { Gives (λ x. (view.stmt_of x.0, x.1.tokens.now)) result
-        (read.part read.stated room rest.entry.tokens.now) }
+fn parse_block_item(alloc: Global, cursor: &mut Cursor) -> Result<Stmt, ParseFault>
+    ensures { Reads view.stmt_of result cursor.old cursor.new (read.part read.stated) }
 {
-    if is_base(rest.tokens) {
-        parse_vars_stmt(alloc, place_of(rest.tokens), rest, room)
+    if is_base(cursor) {
+        parse_vars_stmt(alloc, cursor)
     } else {
-        parse_stmt(alloc, rest, room)
+        parse_stmt(alloc, cursor)
     }
 }
 
 /// What stands in a block (C11 6.8.2), and the closing brace.
 #[cycle(statements)]
-pub(crate) fn parse_body(
-    alloc: Global,
-    whole: Rest,
-    room: u32,
-) -> Result<(Vec<Stmt>, Rest), ParseFault>
-    requires { room ≤ 201 }
-    ensures { Gives (λ x. (map view.stmt_of x.0.items, x.1.tokens.now)) result
-        (read.body read.stated room whole.entry.tokens.now) }
+pub(crate) fn parse_body(alloc: Global, cursor: &mut Cursor) -> Result<Vec<Stmt>, ParseFault>
+    ensures { Reads (λ found. map view.stmt_of found.items) result cursor.old cursor.new
+        (read.body read.stated) }
 {
     let mut found = Vec::new(alloc);
-    let mut rest = whole;
-    for _ in 0..whole.tokens.len() {
-        if is_sign(rest.tokens, *b"}\0\0") {
-            let (_, after) = take(rest, room)?;
-            return Ok((found, after));
+    for _ in 0..cursor.tokens.len() {
+        if cursor.is_sign(BRACE_CLOSE) {
+            cursor.take()?;
+            return Ok(found);
         }
-        let (one, after) = parse_block_item(alloc, rest, room)?;
+        let one = parse_block_item(alloc, cursor)?;
         found.push(one)?;
-        rest = after;
     }
-    Err(ParseFault::Unexpected(place_of(rest.tokens)))
+    Err(cursor.unexpected())
 }

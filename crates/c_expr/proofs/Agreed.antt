@@ -8,7 +8,8 @@ use Rattle.c_expr.specs.declared.fault.ParseFault.{ParseFault}
 use Rattle.c_expr.specs.declared.fault.ParseFault.TheVariants.{Unexpected, TooDeep, OutOfMemory}
 use Rattle.c_expr.specs.declared.rule.Rule.{Rule}
 use Rattle.c_expr.specs.Leveled.{Leveled}
-use Rattle.c_expr.specs.Next.{Outcome, Fails, place_of}
+use Rattle.c_expr.specs.Next.{Outcome, place_of}
+use Rattle.c_expr.specs.Reads.{Fails}
 use Rattle.c_expr.specs.private.ExpressionReading.{rule, ruled}
 use Rattle.c_expr.specs.private.ParserRules.{IsRule}
 use Rattle.c_expr.specs.Parsing.{Parsed, ParsedAt, Agrees, IsEnded}

@@ -1,6 +1,6 @@
 -- What a token does behind an expression: how loosely it binds what stands before it.
 use Rattle.std.proofs.Common.{◌≡◌, ◌<◌, ◌≤◌, ℕ, List, [], ◌∷◌, Option, Some, None, Bool, true, false, refl, sym, ap, ◌∙◌, subst, arith, eqb-true}
-use Rattle.std.specs.Prelude.{◌==◌, if◌then◌else◌, codes}
+use Rattle.std.specs.Prelude.{◌==◌, if◌then◌else◌}
 use Rattle.c_tree.specs.Ty.{Ty}
 use Rattle.c_tree.specs.declared.operator.Binary.{Binary}
 use Rattle.c_tree.specs.declared.operator.Group.{Group}
@@ -11,10 +11,12 @@ use Rattle.c_tree.specs.declared.tree.Callee.{Callee}
 use Rattle.c_token.specs.declared.token.Kind.{Kind}
 use Rattle.c_token.specs.declared.token.Kind.TheVariants as k
 use Rattle.c_tree.specs.Groups.{group}
-use Rattle.c_expr.specs.Spelled.{sign, same, find, assign_op, binary_op, rank, group_rank, unary_op, first_step, last_step, builtin, plain_base, assign_ops, binary_ops, first_steps, last_steps, builtins, plain_bases}
+use Rattle.c_expr.specs.Spelled.{same, find, assign_op, binary_op, rank, group_rank, unary_op, first_step, last_step, builtin, plain_base, assign_ops, binary_ops, first_steps, last_steps, builtins, plain_bases}
 use Rattle.c_expr.specs.Next.{begins, begins_by, operand_by, is_eof, opens, is_base, is_base_by, is_unsigned}
 use Rattle.c_expr.specs.private.ExpressionReading.{of_rank, operator_of}
 use Rattle.c_expr.proofs.KindWords.{same_is}
+use Rattle.c_expr.specs.declared.punctuator.TheConstants.{BRACKET_OPEN, QUESTION}
+use Rattle.c_expr.specs.declared.keyword.TheConstants.{UNSIGNED}
 
 -- of each entry of a table
 abbrev pub AllOf : {X : Type 0} → (Kind → X → Type 0) → List (Kind × X) → Type 0
@@ -41,7 +43,7 @@ binds_by false None false None false (Some how) = 12
 binds_by false None false None false None = 13
 
 abbrev pub binds : Kind → ℕ
-binds kind = binds_by (same kind (sign (codes "["))) (last_step kind) (opens kind) (binary_op kind) (same kind (sign (codes "?"))) (assign_op kind)
+binds kind = binds_by (same kind (k.Sign BRACKET_OPEN)) (last_step kind) (opens kind) (binary_op kind) (same kind (k.Sign QUESTION)) (assign_op kind)
 
 group_most : (g : Group) → group_rank g ≤ 10
 group_most by.Or = omega arith
@@ -61,7 +63,7 @@ rank_most op = group_most (group op)
 
 -- where nothing more is read
 pub no_assign : (kind : Kind) → 12 < binds kind → assign_op kind ≡ None
-no_assign kind h = go (same kind (sign (codes "["))) (last_step kind) (opens kind) (binary_op kind) (same kind (sign (codes "?"))) (assign_op kind) h
+no_assign kind h = go (same kind (k.Sign BRACKET_OPEN)) (last_step kind) (opens kind) (binary_op kind) (same kind (k.Sign QUESTION)) (assign_op kind) h
   where
     go : (i : Bool) (how : Option Step) (call : Bool) (op : Option Binary) (test : Bool)
         (assign : Option (Option Binary)) → 12 < binds_by i how call op test assign → assign ≡ None
@@ -73,8 +75,8 @@ no_assign kind h = go (same kind (sign (codes "["))) (last_step kind) (opens kin
     go false None false None false (Some how) h = absurd (omega arith)
     go false None false None false None h = refl
 
-pub no_test : (kind : Kind) → 11 < binds kind → same kind (sign (codes "?")) ≡ false
-no_test kind h = go (same kind (sign (codes "["))) (last_step kind) (opens kind) (binary_op kind) (same kind (sign (codes "?"))) (assign_op kind) h
+pub no_test : (kind : Kind) → 11 < binds kind → same kind (k.Sign QUESTION) ≡ false
+no_test kind h = go (same kind (k.Sign BRACKET_OPEN)) (last_step kind) (opens kind) (binary_op kind) (same kind (k.Sign QUESTION)) (assign_op kind) h
   where
     go : (i : Bool) (how : Option Step) (call : Bool) (op : Option Binary) (test : Bool)
         (assign : Option (Option Binary)) → 11 < binds_by i how call op test assign → test ≡ false
@@ -93,7 +95,7 @@ not_rank rk op h = go (rank op == rk) refl
     go true e = absurd (let like = eqb-true (rank op) rk e in omega arith)
 
 pub no_operator : (rk : ℕ) (kind : Kind) → rk < binds kind → operator_of rk kind ≡ None
-no_operator rk kind h = go (same kind (sign (codes "["))) (last_step kind) (opens kind) (binary_op kind) (same kind (sign (codes "?"))) (assign_op kind) h
+no_operator rk kind h = go (same kind (k.Sign BRACKET_OPEN)) (last_step kind) (opens kind) (binary_op kind) (same kind (k.Sign QUESTION)) (assign_op kind) h
   where
     go : (i : Bool) (how : Option Step) (call : Bool) (op : Option Binary) (test : Bool)
         (assign : Option (Option Binary)) → rk < binds_by i how call op test assign
@@ -105,13 +107,13 @@ no_operator rk kind h = go (same kind (sign (codes "["))) (last_step kind) (open
     go false None false None test assign h = refl
 
 pub record Unbound (kind : Kind) : Type 0 where
-  pub no_index : same kind (sign (codes "[")) ≡ false
+  pub no_index : same kind (k.Sign BRACKET_OPEN) ≡ false
   pub no_step : last_step kind ≡ None
   pub no_call : opens kind ≡ false
 
 pub unbound : (kind : Kind) → 0 < binds kind → Unbound kind
 unbound kind h =
-    let w = go (same kind (sign (codes "["))) (last_step kind) (opens kind) (binary_op kind) (same kind (sign (codes "?"))) (assign_op kind) h in
+    let w = go (same kind (k.Sign BRACKET_OPEN)) (last_step kind) (opens kind) (binary_op kind) (same kind (k.Sign QUESTION)) (assign_op kind) h in
     record { no_index = w.0; no_step = w.1; no_call = w.2 }
   where
     go : (i : Bool) (how : Option Step) (call : Bool) (op : Option Binary) (test : Bool)
@@ -132,8 +134,8 @@ operator_binds kind op e =
 
 -- a suffix binds tightest, and is no call
 pub step_binds : (kind : Kind) (how : Step) → last_step kind ≡ Some how
-    → (same kind (sign (codes "[")) ≡ false) × (opens kind ≡ false)
-step_binds kind how e = found (λ kind how. (same kind (sign (codes "[")) ≡ false) × (opens kind ≡ false)) last_steps kind how ((refl, refl), ((refl, refl), tt)) e
+    → (same kind (k.Sign BRACKET_OPEN) ≡ false) × (opens kind ≡ false)
+step_binds kind how e = found (λ kind how. (same kind (k.Sign BRACKET_OPEN) ≡ false) × (opens kind ≡ false)) last_steps kind how ((refl, refl), ((refl, refl), tt)) e
 
 -- what begins an expression
 pub prefix_begins : (kind : Kind) (op : Unary) → unary_op kind ≡ Some op → begins kind ≡ true
@@ -165,5 +167,5 @@ no_base kind h = go (plain_base kind) (is_unsigned kind) refl refl
     go : (to : Option Ty) (u : Bool) → plain_base kind ≡ to → is_unsigned kind ≡ u
         → is_base_by to u ≡ false
     go (Some to) u e i = let none : begins kind ≡ false = found (λ kind to. begins kind ≡ false) plain_bases kind to (refl, (refl, tt)) e in let no : true ≡ false = sym h ∙ none in cc
-    go None true e i = let none : begins kind ≡ false = ap begins (same_is kind (k.Reserved (codes "unsigned")) i) in let no : true ≡ false = sym h ∙ none in cc
+    go None true e i = let none : begins kind ≡ false = ap begins (same_is kind (k.Reserved UNSIGNED.now) i) in let no : true ≡ false = sym h ∙ none in cc
     go None false e i = refl

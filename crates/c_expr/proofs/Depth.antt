@@ -1,6 +1,5 @@
 -- More depth than room changes nothing.
 use Rattle.std.proofs.Common.{◌≡◌, ◌<◌, ◌≤◌, ◌-◌, ℕ, zero, suc, List, [], ◌∷◌, ◌++◌, length, Option, Some, None, Bool, true, false, Ok, Err, refl, ap, ◌∙◌, arith, inl, inr, ◌⊎◌}
-use Rattle.std.specs.Prelude.{codes}
 use Rattle.c_tree.specs.Expr.{Expr}
 use Rattle.c_tree.specs.Expr as expr
 use Rattle.c_tree.specs.View.{exprs_list}
@@ -15,16 +14,17 @@ use Rattle.c_token.specs.declared.token.Kind.{Kind}
 use Rattle.c_token.specs.declared.token.Kind.TheVariants as k
 use Rattle.c_expr.specs.declared.rule.Rule.{Rule}
 use Rattle.c_expr.specs.declared.rule.Rule.TheVariants.{Assign, Cond, Unary as UnaryRule}
-use Rattle.c_expr.specs.Spelled.{sign, same, assign_op, unary_op, first_step, last_step, builtin, lor}
+use Rattle.c_expr.specs.Spelled.{same, assign_op, unary_op, first_step, last_step, builtin, lor}
 use Rattle.c_expr.specs.Next.{Outcome, ◌>>=◌, kind_of, take, expect, base, is_base, is_eof, opens, closes, fault_at_start}
-use Rattle.c_expr.specs.private.ExpressionReading.{operator_of, chain_step, chain_from, assign_inside, assign_by, cond_inside, conditional_by, binary, suffix_step, suffixes_from, rule, argument, arguments_by, after_argument, call, after_name, reserved, primary_by, after_open, unary_by, unary_inside, turn, turns, inside, ruled}
+use Rattle.c_expr.specs.private.ExpressionReading.{operator_of, chain_step, chain_from, assign_inside, assign_by, cond_inside, conditional_by, binary, suffix_step, suffixes_from, rule, argument, arguments_by, after_element, call, after_name, reserved, primary_by, after_open, unary_by, unary_inside, turn, turns, inside, ruled}
+use Rattle.c_expr.specs.declared.punctuator.TheConstants.{PARENTHESIS_OPEN, PARENTHESIS_CLOSE, BRACKET_OPEN, BRACKET_CLOSE, COMMA, QUESTION, COLON}
 
-bind_same : {X Y : Type 0} (o : Outcome X) (f g : X × List Token → Outcome Y)
+pub bind_same : {X Y : Type 0} (o : Outcome X) (f g : X × List Token → Outcome Y)
     → ((x : X × List Token) → f x ≡ g x) → (o >>= f) ≡ (o >>= g)
 bind_same (Ok x) f g h = h x
 bind_same (Err e) f g h = refl
 
-both_same : {X Y : Type 0} {o p : Outcome X} (f g : X × List Token → Outcome Y) → o ≡ p
+pub both_same : {X Y : Type 0} {o p : Outcome X} (f g : X × List Token → Outcome Y) → o ≡ p
     → ((x : X × List Token) → f x ≡ g x) → (o >>= f) ≡ (p >>= g)
 both_same {o = o} f g e h = bind_same o f g h ∙ ap (λ o. o >>= g) e
 
@@ -34,7 +34,7 @@ turn_same : {A B : Type 0} (f g : A → List Token → Outcome B)
 turn_same f g h (inl x, ts) = h x ts
 turn_same f g h (inr y, ts) = refl
 
-turns_same : {A B : Type 0} (step step' : A → List Token → Outcome (A ⊎ B))
+pub turns_same : {A B : Type 0} (step step' : A → List Token → Outcome (A ⊎ B))
     → ((x : A) (ts : List Token) → step x ts ≡ step' x ts) → (n : ℕ) (x : A) (ts : List Token)
     → turns step n x ts ≡ turns step' n x ts
 turns_same step step' h zero x ts = refl
@@ -77,8 +77,8 @@ module _ (p q : Rule → ℕ → List Token → Outcome Expr) (top : ℕ) (like 
   test_same : (here : Bool) (r : ℕ) (x : Expr) (ts : List Token) → r ≤ top
       → conditional_by p here r x ts ≡ conditional_by q here r x ts
   test_same true r x ts low = bind_same (take r ts) _ _ (λ u.
-      both_same (λ y. expect (sign (codes ":")) r y.1 >>= λ c. p Cond r c.1 >>= λ z. Ok (expr.Conditional x y.0 z.0 u.0.place, z.1)) (λ y. expect (sign (codes ":")) r y.1 >>= λ c. q Cond r c.1 >>= λ z. Ok (expr.Conditional x y.0 z.0 u.0.place, z.1))
-      (like Assign r u.1 low) (λ y. bind_same (expect (sign (codes ":")) r y.1) _ _ (λ c. ap (λ o. o >>= λ z. Ok (expr.Conditional x y.0 z.0 u.0.place, z.1)) (like Cond r c.1 low))))
+      both_same (λ y. expect (k.Sign COLON) r y.1 >>= λ c. p Cond r c.1 >>= λ z. Ok (expr.Conditional x y.0 z.0 u.0.place, z.1)) (λ y. expect (k.Sign COLON) r y.1 >>= λ c. q Cond r c.1 >>= λ z. Ok (expr.Conditional x y.0 z.0 u.0.place, z.1))
+      (like Assign r u.1 low) (λ y. bind_same (expect (k.Sign COLON) r y.1) _ _ (λ c. ap (λ o. o >>= λ z. Ok (expr.Conditional x y.0 z.0 u.0.place, z.1)) (like Cond r c.1 low))))
   test_same false r x ts low = refl
 
   suffix_same : (f g : Expr → List Token → Outcome Expr)
@@ -86,25 +86,19 @@ module _ (p q : Rule → ℕ → List Token → Outcome Expr) (top : ℕ) (like 
       → (index : Bool) (how : Option Step) (r : ℕ) (x : Expr) (ts : List Token) → r ≤ top
       → suffix_step p f index how r x ts ≡ suffix_step q g index how r x ts
   suffix_same f g h true how r x ts low = bind_same (take r ts) _ _ (λ u.
-      both_same (λ y. expect (sign (codes "]")) r y.1 >>= λ c. f (expr.Index x y.0 u.0.place) c.1) (λ y. expect (sign (codes "]")) r y.1 >>= λ c. g (expr.Index x y.0 u.0.place) c.1)
-      (like Assign r u.1 low) (λ y. bind_same (expect (sign (codes "]")) r y.1) _ _ (λ c. h (expr.Index x y.0 u.0.place) c.1)))
+      both_same (λ y. expect (k.Sign BRACKET_CLOSE) r y.1 >>= λ c. f (expr.Index x y.0 u.0.place) c.1) (λ y. expect (k.Sign BRACKET_CLOSE) r y.1 >>= λ c. g (expr.Index x y.0 u.0.place) c.1)
+      (like Assign r u.1 low) (λ y. bind_same (expect (k.Sign BRACKET_CLOSE) r y.1) _ _ (λ c. h (expr.Index x y.0 u.0.place) c.1)))
   suffix_same f g h false (Some how) r x ts low = bind_same (take r ts) _ _ (λ u. h (expr.Step how x u.0.place) u.1)
   suffix_same f g h false None r x ts low = refl
 
   suffixes_same : (r : ℕ) (x : Expr) (ts : List Token) → r ≤ top
       → suffixes_from p r x ts ≡ suffixes_from q r x ts
-  suffixes_same zero x ts low = suffix_same (λ y us. Ok (y, us)) (λ y us. Ok (y, us)) (λ y us. refl) (same (kind_of ts) (sign (codes "["))) (last_step (kind_of ts)) zero x ts low
-  suffixes_same (suc r) x ts low = suffix_same (suffixes_from p r) (suffixes_from q r) (λ y us. suffixes_same r y us (omega arith)) (same (kind_of ts) (sign (codes "["))) (last_step (kind_of ts)) (suc r) x ts low
-
-  separator_same : (comma : Bool) (r : ℕ) (found : List Expr) (ts : List Token)
-      → after_argument p comma r found ts ≡ after_argument q comma r found ts
-  separator_same true r found ts = refl
-  separator_same false r found ts = refl
+  suffixes_same zero x ts low = suffix_same (λ y us. Ok (y, us)) (λ y us. Ok (y, us)) (λ y us. refl) (same (kind_of ts) (k.Sign BRACKET_OPEN)) (last_step (kind_of ts)) zero x ts low
+  suffixes_same (suc r) x ts low = suffix_same (suffixes_from p r) (suffixes_from q r) (λ y us. suffixes_same r y us (omega arith)) (same (kind_of ts) (k.Sign BRACKET_OPEN)) (last_step (kind_of ts)) (suc r) x ts low
 
   argument_same : (r : ℕ) (found : List Expr) (ts : List Token) → r ≤ top
       → argument p r found ts ≡ argument q r found ts
-  argument_same r found ts low = both_same (λ x. after_argument p (same (kind_of x.1) (sign (codes ","))) r (found ++ x.0 ∷ []) x.1) (λ x. after_argument q (same (kind_of x.1) (sign (codes ","))) r (found ++ x.0 ∷ []) x.1)
-      (like Assign r ts low) (λ x. separator_same (same (kind_of x.1) (sign (codes ","))) r (found ++ x.0 ∷ []) x.1)
+  argument_same r found ts low = ap (λ o. o >>= λ x. after_element (same (kind_of x.1) (k.Sign COMMA)) r (found ++ x.0 ∷ []) x.1) (like Assign r ts low)
 
   arguments_same : (none : Bool) (r : ℕ) (ts : List Token) → r ≤ top
       → arguments_by p none r ts ≡ arguments_by q none r ts
@@ -123,7 +117,7 @@ module _ (p q : Rule → ℕ → List Token → Outcome Expr) (top : ℕ) (like 
   reserved_same : (eof : Bool) (callee : Option Callee) (r : ℕ) (ts : List Token) → r ≤ top
       → reserved p eof callee r ts ≡ reserved q eof callee r ts
   reserved_same true callee r ts low = refl
-  reserved_same false (Some callee) r ts low = bind_same (take r ts) _ _ (λ u. bind_same (expect (sign (codes "(")) r u.1) _ _ (λ o. call_same callee u.0.place r o.1 low))
+  reserved_same false (Some callee) r ts low = bind_same (take r ts) _ _ (λ u. bind_same (expect (k.Sign PARENTHESIS_OPEN) r u.1) _ _ (λ o. call_same callee u.0.place r o.1 low))
   reserved_same false None r ts low = refl
 
   primary_same : (kind : Kind) (eof : Bool) (callee : Option Callee) (r : ℕ) (ts : List Token)
@@ -137,10 +131,10 @@ module _ (p q : Rule → ℕ → List Token → Outcome Expr) (top : ℕ) (like 
 
   open_same : (cast : Bool) (place : Place) (r : ℕ) (ts : List Token) → r ≤ top
       → after_open p cast place r ts ≡ after_open q cast place r ts
-  open_same true place r ts low = bind_same (base r ts) _ _ (λ to. bind_same (expect (sign (codes ")")) r to.1) _ _ (λ c. ap (λ o. o >>= λ x. Ok (expr.Cast to.0 x.0 place, x.1)) (like UnaryRule r c.1 low)))
+  open_same true place r ts low = bind_same (base r ts) _ _ (λ to. bind_same (expect (k.Sign PARENTHESIS_CLOSE) r to.1) _ _ (λ c. ap (λ o. o >>= λ x. Ok (expr.Cast to.0 x.0 place, x.1)) (like UnaryRule r c.1 low)))
   open_same false place r ts low =
-      both_same (λ x. expect (sign (codes ")")) r x.1 >>= λ c. suffixes_from p r x.0 c.1) (λ x. expect (sign (codes ")")) r x.1 >>= λ c. suffixes_from q r x.0 c.1) (like Assign r ts low)
-      (λ x. bind_same (expect (sign (codes ")")) r x.1) _ _ (λ c. suffixes_same r x.0 c.1 low))
+      both_same (λ x. expect (k.Sign PARENTHESIS_CLOSE) r x.1 >>= λ c. suffixes_from p r x.0 c.1) (λ x. expect (k.Sign PARENTHESIS_CLOSE) r x.1 >>= λ c. suffixes_from q r x.0 c.1) (like Assign r ts low)
+      (λ x. bind_same (expect (k.Sign PARENTHESIS_CLOSE) r x.1) _ _ (λ c. suffixes_same r x.0 c.1 low))
 
   unary_same : (o : Option Unary) (how : Option Step) (here : Bool) (r : ℕ) (ts : List Token)
       → r ≤ top → unary_by p o how here r ts ≡ unary_by q o how here r ts
@@ -153,7 +147,7 @@ module _ (p q : Rule → ℕ → List Token → Outcome Expr) (top : ℕ) (like 
       → inside p which r ts ≡ inside q which r ts
   unfolding assign_inside cond_inside unary_inside
   inside_same Assign r ts low = both_same (λ x. assign_by p (assign_op (kind_of x.1)) r x.0 x.1) (λ x. assign_by q (assign_op (kind_of x.1)) r x.0 x.1) (like Cond r ts low) (λ x. condition_same (assign_op (kind_of x.1)) r x.0 x.1 low)
-  inside_same Cond r ts low = both_same (λ x. conditional_by p (same (kind_of x.1) (sign (codes "?"))) r x.0 x.1) (λ x. conditional_by q (same (kind_of x.1) (sign (codes "?"))) r x.0 x.1) (binary_same lor r ts low) (λ x. test_same (same (kind_of x.1) (sign (codes "?"))) r x.0 x.1 low)
+  inside_same Cond r ts low = both_same (λ x. conditional_by p (same (kind_of x.1) (k.Sign QUESTION)) r x.0 x.1) (λ x. conditional_by q (same (kind_of x.1) (k.Sign QUESTION)) r x.0 x.1) (binary_same lor r ts low) (λ x. test_same (same (kind_of x.1) (k.Sign QUESTION)) r x.0 x.1 low)
   inside_same UnaryRule r ts low = unary_same (unary_op (kind_of ts)) (first_step (kind_of ts)) (opens (kind_of ts)) r ts low
 
 pub depth_same : (f g : ℕ) (which : Rule) (r : ℕ) (ts : List Token) → r ≤ f → r ≤ g

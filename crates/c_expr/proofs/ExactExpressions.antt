@@ -13,11 +13,12 @@ use Rattle.c_expr.specs.declared.fault.ParseFault.TheVariants.{Unexpected, TooDe
 use Rattle.c_expr.specs.declared.rule.Rule.{Rule}
 use Rattle.c_expr.specs.declared.rule.Rule.TheVariants.{Assign, Cond, Unary as UnaryRule}
 use Rattle.c_expr.specs.Leveled.{Leveled, tokens_of, AreBelow}
-use Rattle.c_expr.specs.Next.{Outcome, kind_of, place_of, nowhere, Fails}
+use Rattle.c_expr.specs.Next.{Outcome, kind_of, place_of, nowhere}
+use Rattle.c_expr.specs.Reads.{Fails}
 use Rattle.c_expr.specs.private.ExpressionReading.{rule, ruled}
 use Rattle.c_expr.specs.private.ParserRules.{IsRule}
-use Rattle.c_expr.specs.Parsing.{GoesNoFurther, IsRead, IsUnexpected, Parsed, ParsedAt, IsEnded}
-use Rattle.c_expr.proofs.Law.{Law, Looks, plain, AreLow}
+use Rattle.c_expr.specs.Parsing.{GoesNoFurther, IsRead, IsOutOfPlace, IsUnexpected, IsTooDeep, Parsed, ParsedAt, IsEnded}
+use Rattle.c_expr.proofs.Law.{Exceeds, Law, Looks, plain, AreLow}
 use Rattle.c_expr.proofs.ParserRulesLemmas.{rule_law}
 use Rattle.c_expr.proofs.Through.{Follows, follows_itself, through, through_all}
 use Rattle.c_expr.proofs.Complete.{complete_assign, complete_cond, complete_unary}
@@ -104,30 +105,36 @@ module _ {X : Type 0} (P : List Leveled → X → Type 0) (wider : List Leveled 
   read_by ts x (next ∷ rest) read ended splits holds low again =
       (omega arith, record { read = read; splits = splits; spelled = holds; low = below_of 201 read low; no_further = read_ends x read (next ∷ rest) again })
 
-  unexpected_by : (ts : List Token) (p : Place) (read : List Leveled) (rest : List Token)
-      (more : List Leveled) (x : X) → IsEnded ts → ts ≡ tokens_of read ++ rest → place_of rest ≡ p
+  -- what stands where the tokens can't go on
+  abbrev pub out_of_place_by : (ts : List Token) (p : Place) (read : List Leveled) (next : Token) (rest : List Token)
+      (more : List Leveled) (x : X) → ts ≡ tokens_of read ++ next ∷ rest → p ≡ next.place
       → AreLow 201 read → P (read ++ more) x
-      → ((c : List Leveled) (b : List Token) → Looks rest b → wider c (tokens_of read ++ b) ≡ Err (Unexpected (place_of b))) → IsUnexpected P ts p
-  unexpected_by ts p read [] more x ended splits at low holds again = absurd (not_all 201 ts read ended low splits)
-  unexpected_by ts p read (next ∷ rest) more x ended splits at low holds again = record {
+      → GoesNoFurther P read (next ∷ rest) → IsOutOfPlace P ts p
+  out_of_place_by ts p read next rest more x splits at low holds no_further = record {
     read = read;
     next = next;
     rest = rest;
     splits = splits;
-    is_at = sym at;
+    is_at = at;
     low = below_of 201 read low;
     more = more;
     tree = x;
     begins = holds;
-    unfinished = refused_unfinished read (next ∷ rest) again;
-    no_further = refused_ends read (next ∷ rest) again;
+    no_further = no_further;
   }
 
-  pub parsed_by : (ts : List Token) (o : Outcome X) → IsEnded ts → Law 201 (plain P) wider ts o
-      → Answered P ts o
-  parsed_by ts (Ok x) ended h = read_by ts x.0 x.1 h.read ended h.splits h.holds h.low h.again
-  parsed_by ts (Err (Unexpected p)) ended h = unexpected_by ts p h.read h.rest h.more h.value ended h.splits h.place h.low h.holds h.again
-  parsed_by ts (Err (TooDeep p)) ended h = record {
+  pub refused_by : (ts : List Token) (p : Place) (read : List Leveled) (rest : List Token)
+      (more : List Leveled) (x : X) → IsEnded ts → ts ≡ tokens_of read ++ rest → place_of rest ≡ p
+      → AreLow 201 read → P (read ++ more) x
+      → ((c : List Leveled) (b : List Token) → Looks rest b → wider c (tokens_of read ++ b) ≡ Err (Unexpected (place_of b))) → IsUnexpected P ts p
+  refused_by ts p read [] more x ended splits at low holds again = absurd (not_all 201 ts read ended low splits)
+  refused_by ts p read (next ∷ rest) more x ended splits at low holds again = record {
+    stop = out_of_place_by ts p read next rest more x splits (sym at) low holds (refused_ends read (next ∷ rest) again);
+    unfinished = refused_unfinished read (next ∷ rest) again;
+  }
+
+  pub deep_by : (ts : List Token) (p : Place) → Exceeds 201 (plain P) ts p → IsTooDeep P ts p
+  deep_by ts p h = record {
     read = h.read;
     deep = h.high;
     rest = h.rest;
@@ -139,6 +146,12 @@ module _ {X : Type 0} (P : List Leveled → X → Type 0) (wider : List Leveled 
     tree = h.value;
     begins = h.holds;
   }
+
+  pub parsed_by : (ts : List Token) (o : Outcome X) → IsEnded ts → Law 201 (plain P) wider ts o
+      → Answered P ts o
+  parsed_by ts (Ok x) ended h = read_by ts x.0 x.1 h.read ended h.splits h.holds h.low h.again
+  parsed_by ts (Err (Unexpected p)) ended h = refused_by ts p h.read h.rest h.more h.value ended h.splits h.place h.low h.holds h.again
+  parsed_by ts (Err (TooDeep p)) ended h = deep_by ts p h
   parsed_by ts (Err OutOfMemory) ended h = tt
 
 -- room for a spelling

@@ -1,6 +1,6 @@
 -- The law of what stands at the front: what begins an expression, a sign that is expected, a base.
 use Rattle.std.proofs.Common.{◌≡◌, ◌<◌, ◌≤◌, ◌-◌, ℕ, zero, suc, List, [], ◌∷◌, Option, Some, None, Ok, refl, sym, ap, ap₂, ◌∙◌, subst, arith, Bool, true, false}
-use Rattle.std.specs.Prelude.{if◌then◌else◌, codes}
+use Rattle.std.specs.Prelude.{if◌then◌else◌}
 use Rattle.c_tree.specs.Ty.{Ty}
 use Rattle.c_tree.specs.Ty as the_ty
 use Rattle.c_tree.specs.Expr.{Expr}
@@ -13,12 +13,14 @@ use Rattle.c_token.specs.declared.token.Token.{Token}
 use Rattle.c_token.specs.declared.token.Kind.{Kind}
 use Rattle.c_token.specs.declared.token.Kind.TheVariants as k
 use Rattle.c_expr.specs.Leveled.{Leveled, at}
-use Rattle.c_expr.specs.Spelled.{sign, same, lor, unary_op, first_step, builtin, plain_base}
+use Rattle.c_expr.specs.Spelled.{same, lor, unary_op, first_step, builtin, plain_base}
 use Rattle.c_expr.specs.Grammar as g
 use Rattle.c_expr.specs.Grammar.{IsBase, IsAssign, IsCond, IsBinary, IsChain, IsUnary, IsPostfix, IsPrimary, IsCallee, IsArguments, IsListed}
 use Rattle.c_expr.specs.Next.{Outcome, ◌>>=◌, kind_of, nowhere, refuse, take, expect, begins, begins_by, operand_by, base, base_by, after_unsigned, unsigned_of, is_unsigned, is_eof, opens}
 use Rattle.c_expr.proofs.Law.{Lawful, Some_of, some_of, pure_law, stop_law, refuse_law, take_law, plain}
 use Rattle.c_expr.proofs.KindWords.{same_is, not_end, some_not_end}
+use Rattle.c_expr.specs.declared.punctuator.TheConstants.{PARENTHESIS_OPEN}
+use Rattle.c_expr.specs.declared.keyword.TheConstants.{INT, CHAR, UNSIGNED, END_OF_FILE}
 
 -- the tightest rule stands for each of the others
 pub letter_unary : (l : ℕ)
@@ -50,7 +52,7 @@ begin_operand l p (k.Name n) eof callee e h i = record { spelling = []; value = 
 begin_operand l p (k.Number ty v) eof callee e h i = record { spelling = []; value = _; holds = g.number }
 begin_operand l p (k.Character v) eof callee e h i = record { spelling = []; value = _; holds = g.character }
 begin_operand l p kind true callee e h i =
-    subst (λ c. Some_of (λ b y us. IsPrimary l (at l c p ∷ b) y)) (sym (same_is kind (k.Reserved (codes "EOF")) e)) (record { spelling = []; value = _; holds = g.eof })
+    subst (λ c. Some_of (λ b y us. IsPrimary l (at l c p ∷ b) y)) (sym (same_is kind (k.Reserved END_OF_FILE.now) e)) (record { spelling = []; value = _; holds = g.eof })
 begin_operand l p kind false (Some callee) e h i = record { spelling = _; value = _; holds = g.call nowhere nowhere (g.built_in h) g.none }
 begin_operand l p kind false None e h i = cc
 
@@ -64,7 +66,7 @@ begin_unary l p kind e = go (unary_op kind) (first_step kind) (opens kind) refl 
     go (Some op) how here a b c e = record { spelling = _; value = _; holds = g.prefix a (letter_unary (suc l)) }
     go None (Some how) here a b c e = record { spelling = _; value = _; holds = g.step b (letter_unary (suc l)) }
     go None None true a b c e =
-        subst (λ kind. Some_of (λ b y us. IsUnary l (at (suc l) kind p ∷ b) y)) (sym (same_is kind (sign (codes "(")) c))
+        subst (λ kind. Some_of (λ b y us. IsUnary l (at (suc l) kind p ∷ b) y)) (sym (same_is kind (k.Sign PARENTHESIS_OPEN) c))
         (record { spelling = _; value = _; holds = g.postfix (g.primary (g.parens p nowhere (some_assign (suc l)).holds)) })
     go None None false a b c e =
         let w = begin_operand (suc l) p kind (is_eof kind) (builtin kind) refl refl e in
@@ -107,28 +109,28 @@ some_room w = let a = w.0 in omega arith
 
 -- bases
 unsigned_base : (l : ℕ) (p q : Place) (kind : Kind) (to : Ty) → plain_base kind ≡ Some to
-    → IsBase l (at l (k.Reserved (codes "unsigned")) p ∷ (at l kind q ∷ [])) (unsigned_of to)
-unsigned_base l p q kind to e = go (same kind (k.Reserved (codes "int"))) (same kind (k.Reserved (codes "char"))) refl refl e
+    → IsBase l (at l (k.Reserved UNSIGNED.now) p ∷ (at l kind q ∷ [])) (unsigned_of to)
+unsigned_base l p q kind to e = go (same kind (k.Reserved INT.now)) (same kind (k.Reserved CHAR.now)) refl refl e
   where
-    go : (a b : Bool) → same kind (k.Reserved (codes "int")) ≡ a
-        → same kind (k.Reserved (codes "char")) ≡ b
+    go : (a b : Bool) → same kind (k.Reserved INT.now) ≡ a
+        → same kind (k.Reserved CHAR.now) ≡ b
         → (if a then Some the_ty.Int else (if b then Some the_ty.Char else None)) ≡ Some to
-        → IsBase l (at l (k.Reserved (codes "unsigned")) p ∷ (at l kind q ∷ [])) (unsigned_of to)
+        → IsBase l (at l (k.Reserved UNSIGNED.now) p ∷ (at l kind q ∷ [])) (unsigned_of to)
     go true b x y h =
         let is : the_ty.Int ≡ to = cc in
-        subst (λ c. IsBase l (at l (k.Reserved (codes "unsigned")) p ∷ (at l c q ∷ [])) (unsigned_of to)) (sym (same_is kind (k.Reserved (codes "int")) x))
-        (subst (λ s. IsBase l (at l (k.Reserved (codes "unsigned")) p ∷ (at l (k.Reserved (codes "int")) q ∷ [])) (unsigned_of s)) is g.unsigned_int)
+        subst (λ c. IsBase l (at l (k.Reserved UNSIGNED.now) p ∷ (at l c q ∷ [])) (unsigned_of to)) (sym (same_is kind (k.Reserved INT.now) x))
+        (subst (λ s. IsBase l (at l (k.Reserved UNSIGNED.now) p ∷ (at l (k.Reserved INT.now) q ∷ [])) (unsigned_of s)) is g.unsigned_int)
     go false true x y h =
         let is : the_ty.Char ≡ to = cc in
-        subst (λ c. IsBase l (at l (k.Reserved (codes "unsigned")) p ∷ (at l c q ∷ [])) (unsigned_of to)) (sym (same_is kind (k.Reserved (codes "char")) y))
-        (subst (λ s. IsBase l (at l (k.Reserved (codes "unsigned")) p ∷ (at l (k.Reserved (codes "char")) q ∷ [])) (unsigned_of s)) is g.unsigned_char)
+        subst (λ c. IsBase l (at l (k.Reserved UNSIGNED.now) p ∷ (at l c q ∷ [])) (unsigned_of to)) (sym (same_is kind (k.Reserved CHAR.now) y))
+        (subst (λ s. IsBase l (at l (k.Reserved UNSIGNED.now) p ∷ (at l (k.Reserved CHAR.now) q ∷ [])) (unsigned_of s)) is g.unsigned_char)
     go false false x y h = cc
 
 module _ (I : Type 0) (m : ℕ) where
   unsigned_law : (l r : ℕ) (r' : I → ℕ) (p : Place) (kind : Kind) (to : Option Ty)
       (ts : List Token) → kind_of ts ≡ kind → plain_base kind ≡ to → r ≡ m - l
       → ((i : I) → r ≤ r' i)
-      → Lawful m (λ b y us. IsBase l (at l (k.Reserved (codes "unsigned")) p ∷ b) y) (λ i b. after_unsigned (plain_base (kind_of b)) (r' i) b) ts (after_unsigned to r ts)
+      → Lawful m (λ b y us. IsBase l (at l (k.Reserved UNSIGNED.now) p ∷ b) y) (λ i b. after_unsigned (plain_base (kind_of b)) (r' i) b) ts (after_unsigned to r ts)
   unsigned_law l r r' p kind (Some to) ts is e room wide =
       take_law (λ i b. after_unsigned (plain_base (kind_of b)) (r' i) b) (λ i u. Ok (unsigned_of to, u.1)) (λ u. Ok (unsigned_of to, u.1)) m l r r' kind ts room wide is (some_not_end plain_base to kind refl e)
       (λ i p b. ap (λ o. after_unsigned o (r' i) (record { kind = kind; place = p } ∷ b)) e) (λ q rest. pure_law (unsigned_of to) rest (unsigned_base l p q kind to e))
@@ -143,8 +145,8 @@ module _ (I : Type 0) (m : ℕ) where
       take_law (λ i b. base (r' i) b) (λ i u. Ok (to, u.1)) (λ u. Ok (to, u.1)) m l r r' kind ts room wide is (some_not_end plain_base to kind refl e)
       (λ i p b. ap (λ o. base_by o (is_unsigned kind) (r' i) (record { kind = kind; place = p } ∷ b)) e) (λ q rest. pure_law to rest (g.plain e))
   base_by_law l r r' kind None true ts is e h room wide =
-      let word = same_is kind (k.Reserved (codes "unsigned")) h in
-      take_law (λ i b. base (r' i) b) (λ i u. after_unsigned (plain_base (kind_of u.1)) (r' i) u.1) (λ u. after_unsigned (plain_base (kind_of u.1)) r u.1) m l r r' (k.Reserved (codes "unsigned")) ts room wide (is ∙ word) (λ e. cc)
+      let word = same_is kind (k.Reserved UNSIGNED.now) h in
+      take_law (λ i b. base (r' i) b) (λ i u. after_unsigned (plain_base (kind_of u.1)) (r' i) u.1) (λ u. after_unsigned (plain_base (kind_of u.1)) r u.1) m l r r' (k.Reserved UNSIGNED.now) ts room wide (is ∙ word) (λ e. cc)
       (λ i p b. refl) (λ p rest. unsigned_law l r r' p (kind_of rest) (plain_base (kind_of rest)) rest refl refl room wide)
   base_by_law l r r' kind None false ts is e h room wide =
       refuse_law (λ i c b. base_by (plain_base c) (is_unsigned c) (r' i) b) kind ts is (record { spelling = _; value = _; holds = g.unsigned {p = nowhere} })

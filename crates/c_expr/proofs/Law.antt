@@ -1,6 +1,7 @@
 -- What holds of a reader: what it reads is so spelled, where it refuses what was read can be completed, and what it answers hangs on
 -- what it read and on the next token alone, also with more room.
-use Rattle.std.proofs.Common.{◌≡◌, ◌<◌, ◌≤◌, ◌-◌, ℕ, zero, suc, List, [], ◌∷◌, ◌++◌, Ok, Err, refl, sym, ap, ◌∙◌, subst, arith, append_assoc, append-nil, inl, inr, ◌⊎◌}
+use Rattle.std.proofs.Common.{◌≡◌, ◌<◌, ◌≤◌, ◌-◌, ℕ, zero, suc, List, [], ◌∷◌, ◌++◌, Ok, Err, refl, sym, ap, ◌∙◌, subst, arith, append_assoc, append-nil, inl, inr, ◌⊎◌, Bool, true, false}
+use Rattle.std.specs.Prelude.{if◌then◌else◌}
 use Rattle.c_expr.specs.declared.fault.ParseFault.TheVariants.{Unexpected, TooDeep, OutOfMemory}
 use Rattle.c_token.specs.declared.token.Token.{Token}
 use Rattle.c_token.specs.declared.token.Kind.{Kind}
@@ -78,6 +79,41 @@ pub record Some_of {X : Type 0} (P : List Leveled → X → List Token → Type 
   pub spelling : List Leveled
   pub value : X
   pub holds : P spelling value []
+
+-- What was refused, or stands too deep, is as well completed to another rule.
+pub refuses_as : {X Y I : Type 0} {m : ℕ} {P : List Leveled → X → List Token → Type 0}
+    {S : List Leveled → Y → List Token → Type 0} {q : I → List Token → Outcome X}
+    (q' : I → List Token → Outcome Y) {ts : List Token} {p : Place} (h : Refuses m P q ts p)
+    → Some_of (λ b y us. S (h.read ++ b) y us)
+    → ((i : I) (b : List Token) → Looks h.rest b → q' i (tokens_of h.read ++ b) ≡ Err (Unexpected (place_of b)))
+    → Refuses m S q' ts p
+refuses_as q' h some again = record {
+  read = h.read;
+  rest = h.rest;
+  splits = h.splits;
+  place = h.place;
+  low = h.low;
+  more = some.spelling;
+  value = some.value;
+  holds = some.holds;
+  again = again;
+}
+
+pub exceeds_as : {X Y : Type 0} {m : ℕ} {P : List Leveled → X → List Token → Type 0}
+    {S : List Leveled → Y → List Token → Type 0} {ts : List Token} {p : Place}
+    (h : Exceeds m P ts p) → Some_of (λ b y us. S (h.read ++ h.high ∷ b) y us) → Exceeds m S ts p
+exceeds_as h some = record {
+  read = h.read;
+  high = h.high;
+  rest = h.rest;
+  splits = h.splits;
+  place = h.place;
+  low = h.low;
+  is_high = h.is_high;
+  more = some.spelling;
+  value = some.value;
+  holds = some.holds;
+}
 
 nothing_left : (xs ys : List Token) → [] ≡ xs ++ ys → ys ≡ []
 nothing_left [] ys e = sym e
@@ -160,63 +196,38 @@ bind_law {m = m} {P = P} {S = S} {q = q} {ts = ts} {o = o} g f h next = record {
   where
     go : (o : Outcome _) → Law m P q ts o → Law m S (λ i b. q i b >>= g i) ts (o >>= f)
     go (Ok x) h = after m S (λ i b. q i b >>= g i) (λ i b. g i (x.0, b)) h.read ts x.1 h.splits h.low (λ i b l. ap (λ r. r >>= g i) (h.again i b l)) (f x) (next x.0 x.1 h.read h.holds (inr h.splits)).law
-    go (Err (Unexpected p)) h = let more = some_of (next h.value [] (h.read ++ h.more) h.holds (inl refl)) in record {
-      read = h.read;
-      rest = h.rest;
-      splits = h.splits;
-      place = h.place;
-      low = h.low;
-      more = h.more ++ more.spelling;
+    go (Err (Unexpected p)) h = let more = some_of (next h.value [] (h.read ++ h.more) h.holds (inl refl)) in refuses_as (λ i b. q i b >>= g i) h (record {
+      spelling = h.more ++ more.spelling;
       value = more.value;
       holds = subst (λ c. S c more.value []) (append_assoc h.read h.more more.spelling) more.holds;
-      again = λ i b l. ap (λ r. r >>= g i) (h.again i b l);
-    }
-    go (Err (TooDeep p)) h = let more = some_of (next h.value [] (h.read ++ h.high ∷ h.more) h.holds (inl refl)) in record {
-      read = h.read;
-      high = h.high;
-      rest = h.rest;
-      splits = h.splits;
-      place = h.place;
-      low = h.low;
-      is_high = h.is_high;
-      more = h.more ++ more.spelling;
+    }) (λ i b l. ap (λ r. r >>= g i) (h.again i b l))
+    go (Err (TooDeep p)) h = let more = some_of (next h.value [] (h.read ++ h.high ∷ h.more) h.holds (inl refl)) in exceeds_as h (record {
+      spelling = h.more ++ more.spelling;
       value = more.value;
       holds = subst (λ c. S c more.value []) (append_assoc h.read (h.high ∷ h.more) more.spelling) more.holds;
-    }
+    })
+    go (Err OutOfMemory) h = absurd h
+
+-- A reader that answers as another does on what that has read, by a rule that has what that one's has.
+pub carry : {X I : Type 0} {m : ℕ} {P : List Leveled → X → List Token → Type 0}
+    (Q : List Leveled → X → List Token → Type 0) {q : I → List Token → Outcome X}
+    (q' : I → List Token → Outcome X) {ts : List Token} {o : Outcome X}
+    → ((b : List Leveled) (y : X) (us : List Token) → P b y us → Q b y us)
+    → ((i : I) (a : List Leveled) (rest b : List Token) → ts ≡ tokens_of a ++ rest → Looks rest b → q' i (tokens_of a ++ b) ≡ q i (tokens_of a ++ b))
+    → Lawful m P q ts o → Lawful m Q q' ts o
+carry {m = m} {P = P} Q {q = q} q' {ts = ts} {o = o} into same h = record { law = go o h.law }
+  where
+    go : (o : Outcome _) → Law m P q ts o → Law m Q q' ts o
+    go (Ok x) h = record { read = h.read; splits = h.splits; low = h.low; holds = into h.read x.0 x.1 h.holds; again = λ i b l. same i h.read x.1 b h.splits l ∙ h.again i b l }
+    go (Err (Unexpected p)) h = refuses_as q' h (record { spelling = h.more; value = h.value; holds = into (h.read ++ h.more) h.value [] h.holds }) (λ i b l. same i h.read h.rest b h.splits l ∙ h.again i b l)
+    go (Err (TooDeep p)) h = exceeds_as h (record { spelling = h.more; value = h.value; holds = into (h.read ++ h.high ∷ h.more) h.value [] h.holds })
     go (Err OutOfMemory) h = absurd h
 
 pub weaken : {X I : Type 0} {m : ℕ} {P : List Leveled → X → List Token → Type 0}
     (Q : List Leveled → X → List Token → Type 0) {q : I → List Token → Outcome X}
     (q' : I → List Token → Outcome X) {ts : List Token} {o : Outcome X}
     → ((b : List Leveled) (y : X) (us : List Token) → P b y us → Q b y us) → ((i : I) (b : List Token) → q i b ≡ q' i b) → Lawful m P q ts o → Lawful m Q q' ts o
-weaken {m = m} {P = P} Q {q = q} q' {ts = ts} {o = o} into same h = record { law = go o h.law }
-  where
-    go : (o : Outcome _) → Law m P q ts o → Law m Q q' ts o
-    go (Ok x) h = record { read = h.read; splits = h.splits; low = h.low; holds = into h.read x.0 x.1 h.holds; again = λ i b l. sym (same i (tokens_of h.read ++ b)) ∙ h.again i b l }
-    go (Err (Unexpected p)) h = record {
-      read = h.read;
-      rest = h.rest;
-      splits = h.splits;
-      place = h.place;
-      low = h.low;
-      more = h.more;
-      value = h.value;
-      holds = into (h.read ++ h.more) h.value [] h.holds;
-      again = λ i b l. sym (same i (tokens_of h.read ++ b)) ∙ h.again i b l;
-    }
-    go (Err (TooDeep p)) h = record {
-      read = h.read;
-      high = h.high;
-      rest = h.rest;
-      splits = h.splits;
-      place = h.place;
-      low = h.low;
-      is_high = h.is_high;
-      more = h.more;
-      value = h.value;
-      holds = into (h.read ++ h.high ∷ h.more) h.value [] h.holds;
-    }
-    go (Err OutOfMemory) h = absurd h
+weaken Q q' into same h = carry Q q' into (λ i a rest b e l. sym (same i (tokens_of a ++ b))) h
 
 pub pure_law : {Y I : Type 0} {m : ℕ} {S : List Leveled → Y → List Token → Type 0} (y : Y)
     (ts : List Token) → S [] y ts → Lawful {I = I} m S (λ i b. Ok (y, b)) ts (Ok (y, ts))
@@ -247,12 +258,11 @@ stop_law {S = S} body kind ts y is holds here at_end = record {
     go i [] (x ∷ b) l is = absurd l
     go i (t ∷ ts) (x ∷ b) l is = subst (λ c. body i c (x ∷ b) ≡ Ok (y, x ∷ b)) (sym is ∙ ap (λ (u : Token). u.kind) l) (here i (x ∷ b))
 
--- The next token is refused.
-pub refuse_law : {Y I : Type 0} {m : ℕ} {S : List Leveled → Y → List Token → Type 0}
-    (body : I → Kind → List Token → Outcome Y) (kind : Kind) (ts : List Token)
-    → kind_of ts ≡ kind → Some_of S → ((i : I) (b : List Token) → body i kind b ≡ refuse b) → ((i : I) → body i k.End [] ≡ refuse [])
-    → Lawful m S (λ i b. body i (kind_of b) b) ts (refuse ts)
-refuse_law {S = S} body kind ts is some here at_end = record {
+-- The next token is refused, whatever is left.
+refused_here : {Y I : Type 0} {m : ℕ} {S : List Leveled → Y → List Token → Type 0}
+    (q : I → List Token → Outcome Y) (ts : List Token) → Some_of S
+    → ((i : I) (b : List Token) → Looks ts b → q i b ≡ refuse b) → Lawful m S q ts (refuse ts)
+refused_here q ts some again = record {
   law = record {
     read = [];
     rest = ts;
@@ -262,15 +272,56 @@ refuse_law {S = S} body kind ts is some here at_end = record {
     more = some.spelling;
     value = some.value;
     holds = some.holds;
-    again = λ i b l. go i ts b l is;
+    again = again;
   };
 }
+
+-- The next token is refused.
+pub refuse_law : {Y I : Type 0} {m : ℕ} {S : List Leveled → Y → List Token → Type 0}
+    (body : I → Kind → List Token → Outcome Y) (kind : Kind) (ts : List Token)
+    → kind_of ts ≡ kind → Some_of S → ((i : I) (b : List Token) → body i kind b ≡ refuse b) → ((i : I) → body i k.End [] ≡ refuse [])
+    → Lawful m S (λ i b. body i (kind_of b) b) ts (refuse ts)
+refuse_law {S = S} body kind ts is some here at_end = refused_here (λ i b. body i (kind_of b) b) ts some (λ i b l. go i ts b l is)
   where
     go : (i : _) (ts b : List Token) → Looks ts b → kind_of ts ≡ kind
         → body i (kind_of b) b ≡ refuse b
     go i ts [] l is = at_end i
     go i [] (x ∷ b) l is = absurd l
     go i (t ∷ ts) (x ∷ b) l is = subst (λ c. body i c (x ∷ b) ≡ refuse (x ∷ b)) (sym is ∙ ap (λ (u : Token). u.kind) l) (here i (x ∷ b))
+
+-- Nothing may be opened any more: the next token is too deep where it begins something, and else refused.
+pub unopened_law : {Y I : Type 0} {m : ℕ} {S : List Leveled → Y → List Token → Type 0}
+    (q : I → List Token → Outcome Y) (begins : Kind → Bool) (l : ℕ) (ts : List Token) (b : Bool)
+    → begins (kind_of ts) ≡ b → begins k.End ≡ false → 0 ≡ m - l
+    → ((p : Place) (kind : Kind) → begins kind ≡ true → (high : ℕ) × (l < high) × Some_of (λ c y us. S (at high kind p ∷ c) y us))
+    → Some_of S
+    → ((i : I) (b : List Token) → begins (kind_of b) ≡ false → q i b ≡ refuse b)
+    → Lawful m S q ts (Err (if b then TooDeep (place_of ts) else Unexpected (place_of ts)))
+unopened_law q begins l [] true e none room begin some refuses = absurd (let no : false ≡ true = sym none ∙ e in cc)
+unopened_law q begins l (t ∷ ts) true e none room begin some refuses =
+    let w = begin t.place t.kind e in
+    record {
+      law = record {
+        read = [];
+        high = at w.0 t.kind t.place;
+        rest = ts;
+        splits = refl;
+        place = refl;
+        low = tt;
+        is_high = let less = w.1 in omega arith;
+        more = w.2.spelling;
+        value = w.2.value;
+        holds = w.2.holds;
+      };
+    }
+unopened_law {I = I} q begins l ts false e none room begin some refuses =
+    refused_here q ts some (λ i. go i ts e)
+  where
+    go : (i : I) (ts : List Token) → begins (kind_of ts) ≡ false → (b : List Token) → Looks ts b
+        → q i b ≡ Err (Unexpected (place_of b))
+    go i ts e [] l = refuses i [] none
+    go i [] e (y ∷ b) l = absurd l
+    go i (t ∷ ts) e (y ∷ b) l = refuses i (y ∷ b) (ap (λ (u : Token). begins u.kind) (sym l) ∙ e)
 
 -- A token is taken, but its level is too high.
 pub deep_law : {Y I : Type 0} {S : List Leveled → Y → List Token → Type 0}
@@ -324,106 +375,39 @@ take_law {S = S} q g f m l (suc r) r' kind (t ∷ ts) room more is some same nex
 pub end_law : {Y I : Type 0} {m : ℕ} {S : List Leveled → Y → List Token → Type 0}
     (q : I → List Token → Outcome Y) → Some_of S → ((i : I) → q i [] ≡ refuse [])
     → Lawful m S q [] (refuse [])
-end_law {I = I} q some at_end = record {
-  law = record {
-    read = [];
-    rest = [];
-    splits = refl;
-    place = refl;
-    low = tt;
-    more = some.spelling;
-    value = some.value;
-    holds = some.holds;
-    again = go;
-  };
-}
+end_law {I = I} q some at_end = refused_here q [] some go
   where
     go : (i : I) (b : List Token) → Looks [] b → q i b ≡ refuse b
     go i [] l = at_end i
     go i (y ∷ b) l = absurd l
 
--- A reader that takes what another takes at the kind of the next token.
+-- A reader that takes what another takes at what it sees of the next token.
+seen_law : {V Y I : Type 0} {m : ℕ} (S : List Leveled → Y → List Token → Type 0)
+    (see : List Token → V) (of : Token → V)
+    → ((t : Token) (us : List Token) → see (t ∷ us) ≡ of t)
+    → (body : I → V → List Token → Outcome Y) (v : V) (ts : List Token) (o : Outcome Y)
+    → see ts ≡ v → Lawful m S (λ i. body i v) ts o → ((i : I) → body i (see []) [] ≡ body i v [])
+    → Lawful m S (λ i b. body i (see b) b) ts o
+seen_law {I = I} S see of front body v ts o is h at_end = carry S (λ i b. body i (see b) b) (λ b y us h. h) same h
+  where
+    same : (i : I) (a : List Leveled) (rest b : List Token) → ts ≡ tokens_of a ++ rest
+        → Looks rest b → body i (see (tokens_of a ++ b)) (tokens_of a ++ b)
+        ≡ body i v (tokens_of a ++ b)
+    same i [] rest [] e l = at_end i
+    same i [] [] (y ∷ b) e l = absurd l
+    same i [] (t ∷ rest) (y ∷ b) e l = ap (λ c. body i c (y ∷ b)) (front y b ∙ sym (ap of l) ∙ sym (front t rest) ∙ sym (ap see e) ∙ is)
+    same i (x ∷ a) rest b e l = ap (λ c. body i c (x.token ∷ (tokens_of a ++ b))) (front x.token (tokens_of a ++ b) ∙ sym (front x.token (tokens_of a ++ rest)) ∙ sym (ap see e) ∙ is)
+
+-- at its kind
 pub look_law : {Y I : Type 0} {m : ℕ} (S : List Leveled → Y → List Token → Type 0)
     (body : I → Kind → List Token → Outcome Y) (kind : Kind) (ts : List Token) (o : Outcome Y)
     → kind_of ts ≡ kind → Lawful m S (λ i. body i kind) ts o → ((i : I) → body i k.End [] ≡ body i kind [])
     → Lawful m S (λ i b. body i (kind_of b) b) ts o
-look_law {Y = Y} {I = I} {m = m} S body kind ts o is h at_end = record { law = go o h.law }
-  where
-    same : (i : I) (a : List Leveled) (rest b : List Token) → ts ≡ tokens_of a ++ rest
-        → Looks rest b → body i (kind_of (tokens_of a ++ b)) (tokens_of a ++ b)
-        ≡ body i kind (tokens_of a ++ b)
-    same i [] rest [] e l = at_end i
-    same i [] [] (y ∷ b) e l = absurd l
-    same i [] (t ∷ rest) (y ∷ b) e l = ap (λ c. body i c (y ∷ b)) (sym (ap (λ (u : Token). u.kind) l) ∙ sym (ap kind_of e) ∙ is)
-    same i (x ∷ a) rest b e l = ap (λ c. body i c (x.token ∷ (tokens_of a ++ b))) (sym (ap kind_of e) ∙ is)
+look_law S body kind ts o is h at_end = seen_law S kind_of (λ t. t.kind) (λ t us. refl) body kind ts o is h at_end
 
-    go : (o : Outcome Y) → Law m S (λ i. body i kind) ts o
-        → Law m S (λ i b. body i (kind_of b) b) ts o
-    go (Ok x) h = record { read = h.read; splits = h.splits; low = h.low; holds = h.holds; again = λ i b l. same i h.read x.1 b h.splits l ∙ h.again i b l }
-    go (Err (Unexpected p)) h = record {
-      read = h.read;
-      rest = h.rest;
-      splits = h.splits;
-      place = h.place;
-      low = h.low;
-      more = h.more;
-      value = h.value;
-      holds = h.holds;
-      again = λ i b l. same i h.read h.rest b h.splits l ∙ h.again i b l;
-    }
-    go (Err (TooDeep p)) h = record {
-      read = h.read;
-      high = h.high;
-      rest = h.rest;
-      splits = h.splits;
-      place = h.place;
-      low = h.low;
-      is_high = h.is_high;
-      more = h.more;
-      value = h.value;
-      holds = h.holds;
-    }
-    go (Err OutOfMemory) h = absurd h
-
--- A reader that takes what another takes at the place of the next token.
+-- at its place
 pub place_law : {Y I : Type 0} {m : ℕ} (S : List Leveled → Y → List Token → Type 0)
     (body : I → Place → List Token → Outcome Y) (place : Place) (ts : List Token) (o : Outcome Y)
     → place_of ts ≡ place → Lawful m S (λ i. body i place) ts o → ((i : I) → body i nowhere [] ≡ body i place [])
     → Lawful m S (λ i b. body i (place_of b) b) ts o
-place_law {Y = Y} {I = I} {m = m} S body place ts o is h at_end = record { law = go o h.law }
-  where
-    same : (i : I) (a : List Leveled) (rest b : List Token) → ts ≡ tokens_of a ++ rest
-        → Looks rest b → body i (place_of (tokens_of a ++ b)) (tokens_of a ++ b)
-        ≡ body i place (tokens_of a ++ b)
-    same i [] rest [] e l = at_end i
-    same i [] [] (y ∷ b) e l = absurd l
-    same i [] (t ∷ rest) (y ∷ b) e l = ap (λ c. body i c (y ∷ b)) (sym (ap (λ (u : Token). u.place) l) ∙ sym (ap place_of e) ∙ is)
-    same i (x ∷ a) rest b e l = ap (λ c. body i c (x.token ∷ (tokens_of a ++ b))) (sym (ap place_of e) ∙ is)
-
-    go : (o : Outcome Y) → Law m S (λ i. body i place) ts o
-        → Law m S (λ i b. body i (place_of b) b) ts o
-    go (Ok x) h = record { read = h.read; splits = h.splits; low = h.low; holds = h.holds; again = λ i b l. same i h.read x.1 b h.splits l ∙ h.again i b l }
-    go (Err (Unexpected p)) h = record {
-      read = h.read;
-      rest = h.rest;
-      splits = h.splits;
-      place = h.place;
-      low = h.low;
-      more = h.more;
-      value = h.value;
-      holds = h.holds;
-      again = λ i b l. same i h.read h.rest b h.splits l ∙ h.again i b l;
-    }
-    go (Err (TooDeep p)) h = record {
-      read = h.read;
-      high = h.high;
-      rest = h.rest;
-      splits = h.splits;
-      place = h.place;
-      low = h.low;
-      is_high = h.is_high;
-      more = h.more;
-      value = h.value;
-      holds = h.holds;
-    }
-    go (Err OutOfMemory) h = absurd h
+place_law S body place ts o is h at_end = seen_law S place_of (λ t. t.place) (λ t us. refl) body place ts o is h at_end

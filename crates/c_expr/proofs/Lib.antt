@@ -15,3 +15,4 @@ pub mod OneTree
 pub mod Agreed
 pub mod ParserTurns
 pub mod ExpressionFronts
+pub mod EndedTokensLemmas

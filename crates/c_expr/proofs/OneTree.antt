@@ -1,6 +1,5 @@
 -- A list of tokens has one expression, and at most one answer fits.
 use Rattle.std.proofs.Common.{◌≡◌, ◌-◌, ℕ, List, Ok, Err, refl, ap, arith}
-use Rattle.c_tree.specs.declared.place.Place.{Place}
 use Rattle.c_tree.specs.Expr.{Expr}
 use Rattle.c_token.specs.declared.token.Token.{Token}
 use Rattle.c_expr.specs.declared.fault.ParseFault.TheVariants.{Unexpected, TooDeep, OutOfMemory}
@@ -9,11 +8,11 @@ use Rattle.c_expr.specs.Leveled.{Leveled, tokens_of}
 use Rattle.c_expr.specs.Next.{Outcome}
 use Rattle.c_expr.specs.private.ExpressionReading.{ruled}
 use Rattle.c_expr.specs.private.ParserRules.{IsRule}
-use Rattle.c_expr.specs.Parsing.{IsUnexpected, Parsed, Agrees}
+use Rattle.c_expr.specs.Parsing.{Parsed, Agrees}
 use Rattle.c_expr.proofs.PlacedExpressions.{placed_rule}
 use Rattle.c_expr.proofs.ExactExpressions.{complete_rule}
 use Rattle.c_expr.proofs.Single as single
-use Rattle.c_expr.proofs.Single.{Reader, Stops}
+use Rattle.c_expr.proofs.Single.{Reader}
 
 module _ (which : Rule) (l : ℕ) where
   abbrev reader : Reader (IsRule which l)
@@ -27,33 +26,18 @@ module _ (which : Rule) (l : ℕ) where
       → tokens_of a ≡ tokens_of b → x ≡ y
   one_tree = single.one_tree (IsRule which l) reader
 
-  abbrev stops : {ts : List Token} {p : Place} → IsUnexpected (IsRule which l) ts p
-      → Stops (IsRule which l) ts p
-  stops h = record {
-    read = h.read;
-    next = h.next;
-    rest = h.rest;
-    splits = h.splits;
-    is_at = h.is_at;
-    low = h.low;
-    more = h.more;
-    tree = h.tree;
-    begins = h.begins;
-    no_further = h.no_further;
-  }
-
   pub one_answer : (ts : List Token) (o q : Outcome Expr) → Parsed (IsRule which l) ts o
       → Parsed (IsRule which l) ts q → Agrees o q
   one_answer ts (Ok x) (Ok y) h i = ap Ok (single.read_read (IsRule which l) reader ts x.1 y.1 x.0 y.0 h i)
-  one_answer ts (Ok x) (Err (Unexpected p)) h i = absurd (single.read_stops (IsRule which l) reader ts x.1 x.0 p h (stops i) (λ e f. i.unfinished h.read x.0 h.spelled e))
+  one_answer ts (Ok x) (Err (Unexpected p)) h i = absurd (single.read_stops (IsRule which l) reader ts x.1 x.0 p h i.stop (λ e f. i.unfinished h.read x.0 h.spelled e))
   one_answer ts (Ok x) (Err (TooDeep p)) h i = absurd (single.read_deep (IsRule which l) reader ts x.1 x.0 p h i)
   one_answer ts (Ok x) (Err OutOfMemory) h i = tt
-  one_answer ts (Err (Unexpected p)) (Ok x) h i = absurd (single.read_stops (IsRule which l) reader ts x.1 x.0 p i (stops h) (λ e f. h.unfinished i.read x.0 i.spelled e))
-  one_answer ts (Err (Unexpected p)) (Err (Unexpected q)) h i = ap (λ p. Err (Unexpected p)) (single.stops_stops (IsRule which l) reader ts p q (stops h) (stops i))
-  one_answer ts (Err (Unexpected p)) (Err (TooDeep q)) h i = absurd (single.stops_deep (IsRule which l) reader ts p q (stops h) i)
+  one_answer ts (Err (Unexpected p)) (Ok x) h i = absurd (single.read_stops (IsRule which l) reader ts x.1 x.0 p i h.stop (λ e f. h.unfinished i.read x.0 i.spelled e))
+  one_answer ts (Err (Unexpected p)) (Err (Unexpected q)) h i = ap (λ p. Err (Unexpected p)) (single.stops_stops (IsRule which l) reader ts p q h.stop i.stop)
+  one_answer ts (Err (Unexpected p)) (Err (TooDeep q)) h i = absurd (single.stops_deep (IsRule which l) reader ts p q h.stop i)
   one_answer ts (Err (Unexpected p)) (Err OutOfMemory) h i = tt
   one_answer ts (Err (TooDeep p)) (Ok x) h i = absurd (single.read_deep (IsRule which l) reader ts x.1 x.0 p i h)
-  one_answer ts (Err (TooDeep p)) (Err (Unexpected q)) h i = absurd (single.stops_deep (IsRule which l) reader ts q p (stops i) h)
+  one_answer ts (Err (TooDeep p)) (Err (Unexpected q)) h i = absurd (single.stops_deep (IsRule which l) reader ts q p i.stop h)
   one_answer ts (Err (TooDeep p)) (Err (TooDeep q)) h i = ap (λ p. Err (TooDeep p)) (single.deep_deep (IsRule which l) reader ts p q h i)
   one_answer ts (Err (TooDeep p)) (Err OutOfMemory) h i = tt
   one_answer ts (Err OutOfMemory) q h i = tt

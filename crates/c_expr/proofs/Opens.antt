@@ -3,11 +3,13 @@ use Rattle.std.proofs.Common.{◌≡◌, ◌<◌, ◌≤◌, ◌+◌, ℕ, zero,
 use Rattle.c_tree.specs.Expr.{Expr}
 use Rattle.c_token.specs.declared.token.Token.{Token}
 use Rattle.c_expr.specs.declared.rule.Rule.{Rule}
-use Rattle.c_expr.specs.Spelled.{same, sign, last_step}
+use Rattle.c_expr.specs.Spelled.{same, last_step}
 use Rattle.c_expr.specs.Next.{Outcome, fault_at_start, ◌>>=◌, kind_of}
 use Rattle.c_expr.specs.private.ExpressionReading.{rule, inside, binary, chain_from, suffix_step, suffixes_from, arguments_by, argument, turns}
-use Rattle.std.specs.Prelude.{codes, Bool, Option}
+use Rattle.std.specs.Prelude.{Bool, Option}
 use Rattle.c_tree.specs.declared.operator.Step.{Step}
+use Rattle.c_expr.specs.declared.punctuator.TheConstants.{BRACKET_OPEN}
+use Rattle.c_token.specs.declared.token.Kind.TheVariants as k
 
 opens_suc : (f : ℕ) (which : Rule) (r : ℕ) (ts : List Token)
     → rule (suc f) which (suc r) ts ≡ inside (rule f) which r ts
@@ -55,9 +57,9 @@ no_suffix again onward index how r x ts e h = ap (λ b. suffix_step again onward
 
 pub suffixes_stop : (again : Rule → ℕ → List Token → Outcome Expr) (r : ℕ) (x : Expr)
     (ts : List Token)
-    → same (kind_of ts) (sign (codes "[")) ≡ false → last_step (kind_of ts) ≡ None → suffixes_from again r x ts ≡ Ok (x, ts)
-suffixes_stop again zero x ts e h = no_suffix again (λ y us. Ok (y, us)) (same (kind_of ts) (sign (codes "["))) (last_step (kind_of ts)) zero x ts e h
-suffixes_stop again (suc r) x ts e h = no_suffix again (suffixes_from again r) (same (kind_of ts) (sign (codes "["))) (last_step (kind_of ts)) (suc r) x ts e h
+    → same (kind_of ts) (k.Sign BRACKET_OPEN) ≡ false → last_step (kind_of ts) ≡ None → suffixes_from again r x ts ≡ Ok (x, ts)
+suffixes_stop again zero x ts e h = no_suffix again (λ y us. Ok (y, us)) (same (kind_of ts) (k.Sign BRACKET_OPEN)) (last_step (kind_of ts)) zero x ts e h
+suffixes_stop again (suc r) x ts e h = no_suffix again (suffixes_from again r) (same (kind_of ts) (k.Sign BRACKET_OPEN)) (last_step (kind_of ts)) (suc r) x ts e h
 
 pub arguments_open : (again : Rule → ℕ → List Token → Outcome Expr) (none : Bool) (r : ℕ)
     (ts : List Token)

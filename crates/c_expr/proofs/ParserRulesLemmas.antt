@@ -1,6 +1,6 @@
 -- The law of the rules that add a level, at every depth.
-use Rattle.std.proofs.Common.{◌≡◌, ◌<◌, ◌≤◌, ◌-◌, ℕ, zero, suc, List, [], ◌∷◌, length, Option, Some, None, Ok, Err, refl, sym, ap, ◌∙◌, subst, arith, length-append, Bool, true, false}
-use Rattle.std.specs.Prelude.{if◌then◌else◌, codes}
+use Rattle.std.proofs.Common.{◌≡◌, ◌<◌, ◌≤◌, ◌-◌, ℕ, zero, suc, List, ◌∷◌, length, Option, Some, None, Ok, Err, refl, sym, ap, subst, arith, length-append, Bool, true, false}
+use Rattle.std.specs.Prelude.{if◌then◌else◌}
 use Rattle.c_tree.specs.Expr.{Expr}
 use Rattle.c_tree.specs.declared.operator.Step.{Step}
 use Rattle.c_tree.specs.declared.operator.Unary.{Unary}
@@ -13,14 +13,15 @@ use Rattle.c_expr.specs.declared.fault.ParseFault.TheVariants.{Unexpected, TooDe
 use Rattle.c_expr.specs.declared.rule.Rule.{Rule}
 use Rattle.c_expr.specs.declared.rule.Rule.TheVariants.{Assign, Cond, Unary as UnaryRule}
 use Rattle.c_expr.specs.Leveled.{Leveled, at, tokens_of}
-use Rattle.c_expr.specs.Spelled.{sign, same, assign_op, lor, unary_op, first_step, builtin}
+use Rattle.c_expr.specs.Spelled.{same, assign_op, lor, unary_op, first_step, builtin}
 use Rattle.c_expr.specs.Next.{Outcome, ◌>>=◌, kind_of, place_of, nowhere, refuse, begins, begins_by, operand_by, is_eof, opens}
 use Rattle.c_expr.specs.private.ExpressionReading.{chain_from, assign_inside, assign_by, cond_inside, conditional_by, binary, suffixes_from, rule, primary_by, unary_by, unary_inside, inside}
 use Rattle.c_expr.specs.private.ParserRules.{IsRule}
-use Rattle.c_expr.proofs.Law.{Lawful, Some_of, Looks, weaken, plain}
+use Rattle.c_expr.proofs.Law.{Lawful, Some_of, weaken, plain, unopened_law}
 use Rattle.c_expr.proofs.Opens as o
 use Rattle.c_expr.proofs.Sound.{inside_law}
 use Rattle.c_expr.proofs.ExpressionFronts.{begin_unary, unary_assign, unary_cond, narrow_both}
+use Rattle.c_expr.specs.declared.punctuator.TheConstants.{QUESTION}
 
 -- A token that begins no rule is refused.
 binary_refuses : (again : Rule → ℕ → List Token → Outcome Expr) (r : ℕ) (ts : List Token)
@@ -59,7 +60,7 @@ unfolding rule assign_inside cond_inside unary_inside
 refuses zero which r ts e = ap (λ (b : Bool). Err (if b then TooDeep (place_of ts) else Unexpected (place_of ts))) e
 refuses (suc f) which zero ts e = ap (λ (b : Bool). Err (if b then TooDeep (place_of ts) else Unexpected (place_of ts))) e
 refuses (suc f) Assign (suc r) ts e = ap (λ o. o >>= λ x. assign_by (rule f) (assign_op (kind_of x.1)) r x.0 x.1) (refuses f Cond r ts e)
-refuses (suc f) Cond (suc r) ts e = ap (λ o. o >>= λ x. conditional_by (rule f) (same (kind_of x.1) (sign (codes "?"))) r x.0 x.1) (binary_refuses (rule f) r ts (refuses f UnaryRule r ts e) lor)
+refuses (suc f) Cond (suc r) ts e = ap (λ o. o >>= λ x. conditional_by (rule f) (same (kind_of x.1) (k.Sign QUESTION)) r x.0 x.1) (binary_refuses (rule f) r ts (refuses f UnaryRule r ts e) lor)
 refuses (suc f) UnaryRule (suc r) ts e = unary_refuses (rule f) r ts (unary_op (kind_of ts)) (first_step (kind_of ts)) (opens (kind_of ts)) e
 
 -- where no rule may be opened
@@ -75,32 +76,7 @@ some_rule which l = let w = begin_rule which l nowhere (k.Character 0) refl in r
 start_law : (I : Type 0) (m : ℕ) (f' : I → ℕ) (which : Rule) (l : ℕ) (r' : I → ℕ) (ts : List Token)
     (b : Bool) → begins (kind_of ts) ≡ b → 0 ≡ m - l
     → Lawful m (plain (IsRule which l)) (λ i. rule (f' i) which (r' i)) ts (Err (if b then TooDeep (place_of ts) else Unexpected (place_of ts)))
-start_law I m f' which l r' [] true e room = absurd (let e' : false ≡ true = e in cc)
-start_law I m f' which l r' (t ∷ ts) true e room =
-    let w = begin_rule which l t.place t.kind e in
-    record {
-      law = record {
-        read = [];
-        high = at w.0 t.kind t.place;
-        rest = ts;
-        splits = refl;
-        place = refl;
-        low = tt;
-        is_high = let less = w.1 in omega arith;
-        more = w.2.spelling;
-        value = w.2.value;
-        holds = w.2.holds;
-      };
-    }
-start_law I m f' which l r' ts false e room =
-    let w = some_rule which l in
-    record { law = record { read = []; rest = ts; splits = refl; place = refl; low = tt; more = w.spelling; value = w.value; holds = w.holds; again = λ i. go i ts e } }
-  where
-    go : (i : I) (ts : List Token) → begins (kind_of ts) ≡ false → (b : List Token) → Looks ts b
-        → rule (f' i) which (r' i) b ≡ Err (Unexpected (place_of b))
-    go i ts e [] l = refuses (f' i) which (r' i) [] refl
-    go i [] e (y ∷ b) l = absurd l
-    go i (t ∷ ts) e (y ∷ b) l = refuses (f' i) which (r' i) (y ∷ b) (ap (λ (u : Token). begins u.kind) (sym l) ∙ e)
+start_law I m f' which l r' ts b e room = unopened_law (λ i. rule (f' i) which (r' i)) begins l ts b e refl room (begin_rule which l) (some_rule which l) (λ i b no. refuses (f' i) which (r' i) b no)
 
 -- with one depth in both, and then with any two
 abbrev RuleLaw : (I : Type 0) → ℕ → (I → ℕ) → Type 0

@@ -1,11 +1,10 @@
 -- The law of a loop: turns of a reader, each of which reads something.
 use Rattle.std.proofs.Common.{◌≡◌, ◌<◌, ◌≤◌, ℕ, zero, suc, List, [], ◌∷◌, ◌++◌, length, Ok, Err, refl, sym, ap, arith, length-append, inl, inr, ◌⊎◌}
-use Rattle.c_expr.specs.declared.fault.ParseFault.TheVariants.{Unexpected}
 use Rattle.c_token.specs.declared.token.Token.{Token}
 use Rattle.c_expr.specs.Leveled.{Leveled, tokens_of}
-use Rattle.c_expr.specs.Next.{Outcome, ◌>>=◌, place_of, refuse}
+use Rattle.c_expr.specs.Next.{Outcome, ◌>>=◌, refuse}
 use Rattle.c_expr.specs.private.ExpressionReading.{turn, turns}
-use Rattle.c_expr.proofs.Law.{Cut, ended, Lawful, Some_of, Looks, bind_law, weaken, pure_law}
+use Rattle.c_expr.proofs.Law.{Cut, ended, Lawful, Some_of, bind_law, weaken, pure_law, end_law}
 
 -- Turns. From each state something is left to be read, and a turn that is not the last reads some of it.
 abbrev pub Turn : {A B : Type 0} → (A → List Leveled → B → List Token → Type 0) → A → List Leveled
@@ -51,11 +50,6 @@ module _ {A B : Type 0} (step' : A → List Token → Outcome (A ⊎ B))
   canon x [] = sym (ap (λ o. o >>= turn onward') (empty x))
   canon x (t ∷ b) = canon_by x t b (step' x (t ∷ b)) refl
 
-  pub turns_none : (x : A) (b : List Token) → Looks [] b
-      → turns step' (length b) x b ≡ Err (Unexpected (place_of b))
-  turns_none x [] l = refl
-  turns_none x (y ∷ b) l = absurd l
-
 module _ {A B I : Type 0} (m : ℕ) (T : A → List Leveled → B → List Token → Type 0) (some : (x : A) → Some_of (T x)) (step' : I → A → List Token → Outcome (A ⊎ B)) (step : A → List Token → Outcome (A ⊎ B))
     (empty : (i : I) (x : A) → step' i x [] ≡ refuse [])
     (shorter : (i : I) (x y : A) (ts us : List Token) → step' i x ts ≡ Ok (inl y, us) → length us < length ts)
@@ -74,19 +68,7 @@ module _ {A B I : Type 0} (m : ℕ) (T : A → List Leveled → B → List Token
 
   pub turns_law : (n : ℕ) (x : A) (ts : List Token) → length ts ≤ n
       → Lawful m (T x) (λ i b. turns (step' i) (length b) x b) ts (turns step n x ts)
-  turns_law zero x [] most = record {
-    law = record {
-      read = [];
-      rest = [];
-      splits = refl;
-      place = refl;
-      low = tt;
-      more = (some x).spelling;
-      value = (some x).value;
-      holds = (some x).holds;
-      again = λ i b l. turns_none (step' i) (empty i) (shorter i) x b l;
-    };
-  }
+  turns_law zero x [] most = end_law (λ i b. turns (step' i) (length b) x b) (some x) (λ i. refl)
   turns_law zero x (t ∷ ts) most = absurd (omega arith)
   turns_law (suc n) x ts most = weaken (T x) (λ i b. turns (step' i) (length b) x b) (λ b y us h. h) (λ i b. sym (canon (step' i) (empty i) (shorter i) x b))
       (bind_law (λ i. turn (λ y us. turns (step' i) (length us) y us)) (turn (turns step n)) (law x ts) (turns_next n x ts most (turns_law n)))

@@ -1,17 +1,17 @@
 -- The grammar hangs on kinds and levels alone: with other places the same tokens spell a tree too.
 use Rattle.std.proofs.Common.{◌≡◌, ℕ, suc, ◌+◌, List, [], ◌∷◌, ◌++◌, refl, sym, ap, ◌∙◌, subst}
-use Rattle.std.specs.Prelude.{codes}
 use Rattle.c_tree.specs.Ty.{Ty}
 use Rattle.c_tree.specs.Expr.{Expr}
 use Rattle.c_tree.specs.declared.place.Place.{Place}
 use Rattle.c_token.specs.declared.token.Kind.{Kind}
 use Rattle.c_expr.specs.Leveled.{Leveled, at}
-use Rattle.c_expr.specs.Spelled.{sign}
 use Rattle.c_expr.specs.declared.rule.Rule.{Rule}
 use Rattle.c_expr.specs.declared.rule.Rule.TheVariants.{Assign, Cond, Unary as UnaryRule}
 use Rattle.c_expr.specs.private.ParserRules.{IsRule}
 use Rattle.c_expr.specs.Grammar as g
 use Rattle.c_expr.specs.Grammar.{IsBase, IsAssign, IsCond, IsBinary, IsChain, IsUnary, IsPostfix, IsPrimary, IsArguments, IsListed}
+use Rattle.c_expr.specs.declared.punctuator.TheConstants.{PARENTHESIS_OPEN, PARENTHESIS_CLOSE, BRACKET_OPEN, BRACKET_CLOSE, COMMA, QUESTION, COLON}
+use Rattle.c_token.specs.declared.token.Kind.TheVariants as k
 
 -- the same kinds and levels
 pub data Similar : List Leveled → List Leveled → Type 0 where
@@ -91,12 +91,12 @@ mutual
       → Similar a b → Tree (IsCond l) b
   placed_cond (g.binary h) b s = let w = placed_binary h b s in record { tree = w.tree; holds = g.binary w.holds }
   placed_cond (g.conditional {l = l} {p = p} {a = a} {b = b} {c = c} q h i j) d s =
-      let w = cut a (suc l) (sign (codes "?")) p (b ++ at (suc l) (sign (codes ":")) q ∷ c) d s in
-      let v = cut b (suc l) (sign (codes ":")) q c w.right w.similar_right in
+      let w = cut a (suc l) (k.Sign QUESTION) p (b ++ at (suc l) (k.Sign COLON) q ∷ c) d s in
+      let v = cut b (suc l) (k.Sign COLON) q c w.right w.similar_right in
       let x = placed_binary h w.left w.similar_left in
       let y = placed_assign i v.left v.similar_left in
       let z = placed_cond j v.right v.similar_right in
-      (move (λ d. IsCond l d) (ap (λ d. w.left ++ at (suc l) (sign (codes "?")) w.place ∷ d) v.is ∙ w.is) (g.conditional v.place x.holds y.holds z.holds))
+      (move (λ d. IsCond l d) (ap (λ d. w.left ++ at (suc l) (k.Sign QUESTION) w.place ∷ d) v.is ∙ w.is) (g.conditional v.place x.holds y.holds z.holds))
 
   placed_binary : {r l : ℕ} {a : List Leveled} {x : Expr} → IsBinary r l a x → (b : List Leveled)
       → Similar a b → Tree (IsBinary r l) b
@@ -117,21 +117,21 @@ mutual
   placed_unary (g.prefix e h) _ (more {b = b} q s) = let w = placed_unary h b s in record { tree = _; holds = g.prefix e w.holds }
   placed_unary (g.step e h) _ (more {b = b} q s) = let w = placed_unary h b s in record { tree = _; holds = g.step e w.holds }
   placed_unary (g.cast {l = l} {a = a} {b = b} q j h) _ (more {b = c} p s) =
-      let w = cut a (suc l) (sign (codes ")")) q b c s in
+      let w = cut a (suc l) (k.Sign PARENTHESIS_CLOSE) q b c s in
       let x = placed_unary h w.right w.similar_right in
-      (move (λ d. IsUnary l d) (ap (λ d. at (suc l) (sign (codes "(")) p ∷ d) w.is) (g.cast w.place (placed_base j w.left w.similar_left) x.holds))
+      (move (λ d. IsUnary l d) (ap (λ d. at (suc l) (k.Sign PARENTHESIS_OPEN) p ∷ d) w.is) (g.cast w.place (placed_base j w.left w.similar_left) x.holds))
   placed_unary (g.postfix h) b s = let w = placed_postfix h b s in record { tree = w.tree; holds = g.postfix w.holds }
 
   placed_postfix : {l n : ℕ} {a : List Leveled} {x : Expr} → IsPostfix l n a x → (b : List Leveled)
       → Similar a b → Tree (IsPostfix l n) b
   placed_postfix (g.primary h) b s = let w = placed_primary h b s in record { tree = w.tree; holds = g.primary w.holds }
   placed_postfix (g.index {l = l} {n = n} {p = p} {a = a} {b = b} q h i) c s =
-      let w = cut a (l + n) (sign (codes "[")) p (b ++ at (l + n) (sign (codes "]")) q ∷ []) c s in
-      let v = cut b (l + n) (sign (codes "]")) q [] w.right w.similar_right in
+      let w = cut a (l + n) (k.Sign BRACKET_OPEN) p (b ++ at (l + n) (k.Sign BRACKET_CLOSE) q ∷ []) c s in
+      let v = cut b (l + n) (k.Sign BRACKET_CLOSE) q [] w.right w.similar_right in
       let x = placed_postfix h w.left w.similar_left in
       let y = placed_assign i v.left v.similar_left in
-      let e = ap (λ d. v.left ++ at (l + n) (sign (codes "]")) v.place ∷ d) (nothing_left v.right v.similar_right) ∙ v.is in
-      (move (λ d. IsPostfix l (suc n) d) (ap (λ d. w.left ++ at (l + n) (sign (codes "[")) w.place ∷ d) e ∙ w.is) (g.index v.place x.holds y.holds))
+      let e = ap (λ d. v.left ++ at (l + n) (k.Sign BRACKET_CLOSE) v.place ∷ d) (nothing_left v.right v.similar_right) ∙ v.is in
+      (move (λ d. IsPostfix l (suc n) d) (ap (λ d. w.left ++ at (l + n) (k.Sign BRACKET_OPEN) w.place ∷ d) e ∙ w.is) (g.index v.place x.holds y.holds))
   placed_postfix (g.step_last {l = l} {n = n} {p = p} {a = a} kind h e) c s =
       let w = cut a (l + n) kind p [] c s in
       let x = placed_postfix h w.left w.similar_left in
@@ -140,19 +140,19 @@ mutual
   placed_primary : {l : ℕ} {a : List Leveled} {x : Expr} → IsPrimary l a x → (b : List Leveled)
       → Similar a b → Tree (IsPrimary l) b
   placed_primary (g.call {l = l} {kind = kind} {a = a} q z h i) _ (more p (more {b = c} r s)) =
-      let w = cut a l (sign (codes ")")) z [] c s in
+      let w = cut a l (k.Sign PARENTHESIS_CLOSE) z [] c s in
       let x = placed_arguments i w.left w.similar_left in
-      let e = ap (λ d. w.left ++ at l (sign (codes ")")) w.place ∷ d) (nothing_left w.right w.similar_right) ∙ w.is in
-      (move (λ d. IsPrimary l d) (ap (λ d. at l kind p ∷ (at l (sign (codes "(")) r ∷ d)) e) (g.call r w.place h x.holds))
+      let e = ap (λ d. w.left ++ at l (k.Sign PARENTHESIS_CLOSE) w.place ∷ d) (nothing_left w.right w.similar_right) ∙ w.is in
+      (move (λ d. IsPrimary l d) (ap (λ d. at l kind p ∷ (at l (k.Sign PARENTHESIS_OPEN) r ∷ d)) e) (g.call r w.place h x.holds))
   placed_primary g.name _ (more p none) = record { tree = _; holds = g.name }
   placed_primary g.eof _ (more p none) = record { tree = _; holds = g.eof }
   placed_primary g.number _ (more p none) = record { tree = _; holds = g.number }
   placed_primary g.character _ (more p none) = record { tree = _; holds = g.character }
   placed_primary (g.parens {l = l} {a = a} p q h) _ (more {b = c} r s) =
-      let w = cut a l (sign (codes ")")) q [] c s in
+      let w = cut a l (k.Sign PARENTHESIS_CLOSE) q [] c s in
       let x = placed_assign h w.left w.similar_left in
-      let e = ap (λ d. w.left ++ at l (sign (codes ")")) w.place ∷ d) (nothing_left w.right w.similar_right) ∙ w.is in
-      (move (λ d. IsPrimary l d) (ap (λ d. at l (sign (codes "(")) r ∷ d) e) (g.parens r w.place x.holds))
+      let e = ap (λ d. w.left ++ at l (k.Sign PARENTHESIS_CLOSE) w.place ∷ d) (nothing_left w.right w.similar_right) ∙ w.is in
+      (move (λ d. IsPrimary l d) (ap (λ d. at l (k.Sign PARENTHESIS_OPEN) r ∷ d) e) (g.parens r w.place x.holds))
 
   placed_arguments : {l : ℕ} {a : List Leveled} {xs : List Expr} → IsArguments l a xs
       → (b : List Leveled) → Similar a b → Tree (IsArguments l) b
@@ -163,7 +163,7 @@ mutual
       → (b : List Leveled) → Similar a b → Tree (IsListed l) b
   placed_listed (g.one h) b s = let w = placed_assign h b s in record { tree = _; holds = g.one w.holds }
   placed_listed (g.more {l = l} {a = a} {b = b} p h i) c s =
-      let w = cut a l (sign (codes ",")) p b c s in
+      let w = cut a l (k.Sign COMMA) p b c s in
       let x = placed_assign h w.left w.similar_left in
       let y = placed_listed i w.right w.similar_right in
       (move (λ d. IsListed l d) w.is (g.more w.place x.holds y.holds))

@@ -6,7 +6,7 @@ use Rattle.c_expr.specs.declared.fault.ParseFault.{ParseFault}
 use Rattle.c_expr.specs.declared.fault.ParseFault.TheVariants.{TooDeep}
 use Rattle.c_expr.specs.Leveled.{Leveled, tokens_of, AreBelow}
 use Rattle.c_expr.specs.Next.{Outcome, place_of}
-use Rattle.c_expr.specs.Parsing.{GoesNoFurther, IsRead, IsTooDeep, Begins}
+use Rattle.c_expr.specs.Parsing.{GoesNoFurther, IsRead, IsOutOfPlace, IsTooDeep, Begins}
 use Rattle.c_expr.proofs.Law.{tokens_append}
 use Rattle.c_expr.proofs.Through.{Follows, follows_itself, through, through_all, allowed, join}
 use Rattle.c_expr.proofs.PlacedExpressions.{Similar, Tree, placed, similar_placed}
@@ -82,19 +82,6 @@ through_elsewhere : {X : Type 0} (m : ℕ) (q p : Place) (c : List Leveled) (x :
 through_elsewhere m q p [] x h e = ok_not_err x (TooDeep p) e
 through_elsewhere m q p (y ∷ c) x h e = allowed_elsewhere q p (m - y.level) (through m (placed q c) (Ok x)) h (through_elsewhere m q p c x h) e
 
--- what begins a list of the rule, and with the next token begins none
-pub record Stops {X : Type 0} (P : List Leveled → X → Type 0) (ts : List Token) (place : Place) : Type 0 where
-  pub read : List Leveled
-  pub next : Token
-  pub rest : List Token
-  pub splits : ts ≡ tokens_of read ++ next ∷ rest
-  pub is_at : place ≡ next.place
-  pub low : AreBelow 201 read
-  pub more : List Leveled
-  pub tree : X
-  pub begins : P (read ++ more) tree
-  pub no_further : GoesNoFurther P read (next ∷ rest)
-
 -- A reader at each limit takes what is spelled, and what is spelled is so at other places too.
 pub record Reader {X : Type 0} (P : List Leveled → X → Type 0) : Type 0 where
   pub reads : ℕ → List Token → Outcome X
@@ -138,7 +125,7 @@ module _ {X : Type 0} (P : List Leveled → X → Type 0) (reader : Reader P) wh
 
   -- one that is read whole, where that is told from what is not
   pub read_stops : (ts rest : List Token) (x : X) (p : Place) (h : IsRead P ts x rest)
-      (i : Stops P ts p) → (tokens_of h.read ≡ tokens_of i.read → rest ≡ i.next ∷ i.rest → ⊥) → ⊥
+      (i : IsOutOfPlace P ts p) → (tokens_of h.read ≡ tokens_of i.read → rest ≡ i.next ∷ i.rest → ⊥) → ⊥
   read_stops ts rest x p h i apart = go (compare (tokens_of h.read) (tokens_of i.read) rest (i.next ∷ i.rest) (sym h.splits ∙ i.splits))
     where
       go : Compared (tokens_of h.read) (tokens_of i.read) rest (i.next ∷ i.rest) → ⊥
@@ -146,7 +133,7 @@ module _ {X : Type 0} (P : List Leveled → X → Type 0) (reader : Reader P) wh
       go (longer n more e f) = stops h.read rest n (more ++ i.next ∷ i.rest) (more ++ tokens_of i.more) (i.read ++ i.more) i.tree h.no_further f i.begins (going_on i.read i.more (tokens_of h.read) n more e)
       go (shorter n more e f) = stops i.read (i.next ∷ i.rest) n (more ++ rest) more h.read x i.no_further f h.spelled e
 
-  pub stops_stops : (ts : List Token) (p q : Place) → Stops P ts p → Stops P ts q → p ≡ q
+  pub stops_stops : (ts : List Token) (p q : Place) → IsOutOfPlace P ts p → IsOutOfPlace P ts q → p ≡ q
   stops_stops ts p q h i = go (compare (tokens_of h.read) (tokens_of i.read) (h.next ∷ h.rest) (i.next ∷ i.rest) (sym h.splits ∙ i.splits))
     where
       go : Compared (tokens_of h.read) (tokens_of i.read) (h.next ∷ h.rest) (i.next ∷ i.rest)
@@ -182,7 +169,7 @@ module _ {X : Type 0} (P : List Leveled → X → Type 0) (reader : Reader P) wh
       ok_not_err (x, []) (TooDeep i.deep.token.place)
       (sym (reads_all 201 h.read x h.spelled h.low) ∙ ap (reader.reads 201) (append-nil (tokens_of h.read) ∙ w.1) ∙ deep_reads ts p i w.0)
 
-  pub stops_deep : (ts : List Token) (p q : Place) → Stops P ts p → IsTooDeep P ts q → ⊥
+  pub stops_deep : (ts : List Token) (p q : Place) → IsOutOfPlace P ts p → IsTooDeep P ts q → ⊥
   stops_deep ts p q h i =
       let w = not_before ts q i h.read (h.next ∷ h.rest) h.no_further (compare (tokens_of h.read) (tokens_of i.read) (h.next ∷ h.rest) (i.deep.token ∷ i.rest) (sym h.splits ∙ i.splits)) in
       let other : Place = elsewhere i.deep.token.place in

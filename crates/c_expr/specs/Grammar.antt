@@ -1,6 +1,6 @@
 -- The grammar of expressions: which tokens, each with its level, spell which tree (C11 6.5). One constructor for each alternative.
 -- The first number of each family is the level that what is open outside adds to each token.
-use Rattle.std.specs.Prelude.{◌≡◌, ℕ, zero, suc, ◌+◌, List, [], ◌∷◌, ◌++◌, codes, Option, Some}
+use Rattle.std.specs.Prelude.{◌≡◌, ℕ, zero, suc, ◌+◌, List, [], ◌∷◌, ◌++◌, Option, Some}
 use Rattle.c_tree.specs.declared.ctype.CType.{CType}
 use Rattle.c_tree.specs.declared.operator.Binary.{Binary}
 use Rattle.c_tree.specs.declared.operator.Step.{Step}
@@ -16,20 +16,22 @@ use Rattle.c_tree.specs.View.{ty_of, exprs_list}
 use Rattle.c_token.specs.declared.token.Kind.{Kind}
 use Rattle.c_token.specs.declared.token.Kind.TheVariants as k
 use Rattle.c_expr.specs.Leveled.{Leveled, at}
-use Rattle.c_expr.specs.Spelled.{sign, assign_op, binary_op, rank, lor, unary_op, first_step, last_step, builtin, plain_base}
+use Rattle.c_expr.specs.Spelled.{assign_op, binary_op, rank, lor, unary_op, first_step, last_step, builtin, plain_base}
+use Rattle.c_expr.specs.declared.punctuator.TheConstants.{PARENTHESIS_OPEN, PARENTHESIS_CLOSE, BRACKET_OPEN, BRACKET_CLOSE, COMMA, QUESTION, COLON}
+use Rattle.c_expr.specs.declared.keyword.TheConstants.{INT, CHAR, UNSIGNED, END_OF_FILE}
 
 -- base (C11 6.7.2); the type `unsigned char` is `char`
 pub data IsBase : ℕ → List Leveled → Ty → Type 0 where
   plain : {l : ℕ} {kind : Kind} {p : Place} {to : Ty} → plain_base kind ≡ Some to
       → IsBase l (at l kind p ∷ []) to
   unsigned : {l : ℕ} {p : Place}
-      → IsBase l (at l (k.Reserved (codes "unsigned")) p ∷ []) the_ty.Unsigned
+      → IsBase l (at l (k.Reserved UNSIGNED.now) p ∷ []) the_ty.Unsigned
   unsigned_int : {l : ℕ} {p q : Place}
-      → IsBase l (at l (k.Reserved (codes "unsigned")) p
-      ∷ (at l (k.Reserved (codes "int")) q ∷ [])) the_ty.Unsigned
+      → IsBase l (at l (k.Reserved UNSIGNED.now) p
+      ∷ (at l (k.Reserved INT.now) q ∷ [])) the_ty.Unsigned
   unsigned_char : {l : ℕ} {p q : Place}
-      → IsBase l (at l (k.Reserved (codes "unsigned")) p
-      ∷ (at l (k.Reserved (codes "char")) q ∷ [])) the_ty.Char
+      → IsBase l (at l (k.Reserved UNSIGNED.now) p
+      ∷ (at l (k.Reserved CHAR.now) q ∷ [])) the_ty.Char
 
 mutual
   -- assign (C11 6.5.16)
@@ -45,8 +47,8 @@ mutual
     binary : {l : ℕ} {a : List Leveled} {x : Expr} → IsBinary lor (suc l) a x → IsCond l a x
     conditional : {l : ℕ} {p : Place} {a b c : List Leveled} {x y z : Expr} (q : Place)
         → IsBinary lor (suc l) a x → IsAssign (suc l) b y → IsCond (suc l) c z
-        → IsCond l (a ++ at (suc l) (sign (codes "?")) p
-        ∷ (b ++ at (suc l) (sign (codes ":")) q ∷ c)) (expr.Conditional x y z p)
+        → IsCond l (a ++ at (suc l) (k.Sign QUESTION) p
+        ∷ (b ++ at (suc l) (k.Sign COLON) q ∷ c)) (expr.Conditional x y z p)
 
   -- lor to mul (C11 6.5.5 to 6.5.14): operands joined by operators of the rule of this rank, or of a tighter one
   pub data IsBinary : ℕ → ℕ → List Leveled → Expr → Type 0 where
@@ -71,7 +73,8 @@ mutual
         → IsUnary l (at (suc l) kind p ∷ a) (expr.Step how x p)
     cast : {l : ℕ} {p : Place} {a b : List Leveled} {to : Ty} {x : Expr} (q : Place)
         → IsBase (suc l) a to → IsUnary (suc l) b x
-        → IsUnary l (at (suc l) (sign (codes "(")) p ∷ (a ++ at (suc l) (sign (codes ")")) q ∷ b))
+        → IsUnary l (at (suc l) (k.Sign PARENTHESIS_OPEN) p
+        ∷ (a ++ at (suc l) (k.Sign PARENTHESIS_CLOSE) q ∷ b))
         (expr.Cast to x p)
     postfix : {l n : ℕ} {a : List Leveled} {x : Expr} → IsPostfix (suc l) n a x → IsUnary l a x
 
@@ -80,8 +83,8 @@ mutual
     primary : {l : ℕ} {a : List Leveled} {x : Expr} → IsPrimary l a x → IsPostfix l zero a x
     index : {l n : ℕ} {p : Place} {a b : List Leveled} {x y : Expr} (q : Place) → IsPostfix l n a x
         → IsAssign (l + n) b y
-        → IsPostfix l (suc n) (a ++ at (l + n) (sign (codes "[")) p
-        ∷ (b ++ at (l + n) (sign (codes "]")) q ∷ [])) (expr.Index x y p)
+        → IsPostfix l (suc n) (a ++ at (l + n) (k.Sign BRACKET_OPEN) p
+        ∷ (b ++ at (l + n) (k.Sign BRACKET_CLOSE) q ∷ [])) (expr.Index x y p)
     step_last : {l n : ℕ} {p : Place} {how : Step} {a : List Leveled} {x : Expr} (kind : Kind)
         → IsPostfix l n a x → last_step kind ≡ Some how
         → IsPostfix l (suc n) (a ++ at (l + n) kind p ∷ []) (expr.Step how x p)
@@ -92,16 +95,17 @@ mutual
         (q r : Place)
         → IsCallee kind callee → IsArguments l a xs
         → IsPrimary l (at l kind p
-        ∷ (at l (sign (codes "(")) q ∷ (a ++ at l (sign (codes ")")) r ∷ [])))
+        ∷ (at l (k.Sign PARENTHESIS_OPEN) q ∷ (a ++ at l (k.Sign PARENTHESIS_CLOSE) r ∷ [])))
         (expr.Call callee (exprs_list xs) p)
     name : {l : ℕ} {p : Place} {n : List ℕ} → IsPrimary l (at l (k.Name n) p ∷ []) (expr.Name n p)
-    eof : {l : ℕ} {p : Place} → IsPrimary l (at l (k.Reserved (codes "EOF")) p ∷ []) (expr.Eof p)
+    eof : {l : ℕ} {p : Place} → IsPrimary l (at l (k.Reserved END_OF_FILE.now) p ∷ []) (expr.Eof p)
     number : {l v : ℕ} {ty : CType} {p : Place}
         → IsPrimary l (at l (k.Number ty v) p ∷ []) (expr.Number (ty_of ty) v p)
     character : {l v : ℕ} {p : Place}
         → IsPrimary l (at l (k.Character v) p ∷ []) (expr.Character v p)
     parens : {l : ℕ} {a : List Leveled} {x : Expr} (p q : Place) → IsAssign l a x
-        → IsPrimary l (at l (sign (codes "(")) p ∷ (a ++ at l (sign (codes ")")) q ∷ [])) x
+        → IsPrimary l (at l (k.Sign PARENTHESIS_OPEN) p
+        ∷ (a ++ at l (k.Sign PARENTHESIS_CLOSE) q ∷ [])) x
 
   -- callee
   pub data IsCallee : Kind → Callee → Type 0 where
@@ -118,4 +122,4 @@ mutual
     one : {l : ℕ} {a : List Leveled} {x : Expr} → IsAssign l a x → IsListed l a (x ∷ [])
     more : {l : ℕ} {a b : List Leveled} {x : Expr} {xs : List Expr} (p : Place) → IsAssign l a x
         → IsListed l b xs
-        → IsListed l (a ++ at l (sign (codes ",")) p ∷ b) (x ∷ xs)
+        → IsListed l (a ++ at l (k.Sign COMMA) p ∷ b) (x ∷ xs)

@@ -1,5 +1,6 @@
--- What stands next in a list of tokens, and what is left behind it.
-use Rattle.std.specs.Prelude.{◌≡◌, ℕ, zero, suc, List, [], ◌∷◌, Bool, true, false, if◌then◌else◌, codes, Option, Some, None, Result, Ok, Err}
+-- What is next in a list of tokens, and what is left after it.
+use Rattle.std.specs.Prelude.{ℕ, zero, suc, List, [], ◌∷◌, Bool, true, false, if◌then◌else◌, Option, Some, None, Result, Ok, Err}
+use Rattle.std.specs.Borrow.{Bor}
 use Rattle.c_tree.specs.declared.operator.Step.{Step}
 use Rattle.c_tree.specs.declared.operator.Unary.{Unary}
 use Rattle.c_tree.specs.declared.place.Place.{Place}
@@ -10,8 +11,10 @@ use Rattle.c_token.specs.declared.token.Kind.{Kind}
 use Rattle.c_token.specs.declared.token.Kind.TheVariants as k
 use Rattle.c_token.specs.declared.token.Token.{Token}
 use Rattle.c_expr.specs.declared.fault.ParseFault.{ParseFault}
-use Rattle.c_expr.specs.declared.fault.ParseFault.TheVariants.{Unexpected, TooDeep, OutOfMemory}
-use Rattle.c_expr.specs.Spelled.{sign, same, unary_op, first_step, builtin, plain_base}
+use Rattle.c_expr.specs.declared.fault.ParseFault.TheVariants.{Unexpected, TooDeep}
+use Rattle.c_expr.specs.Spelled.{same, unary_op, first_step, builtin, plain_base}
+use Rattle.c_expr.specs.declared.punctuator.TheConstants.{PARENTHESIS_OPEN, PARENTHESIS_CLOSE}
+use Rattle.c_expr.specs.declared.keyword.TheConstants.{UNSIGNED, END_OF_FILE}
 
 abbrev pub Outcome : Type 0 → Type 0
 Outcome X = Result (X × List Token) ParseFault
@@ -21,24 +24,24 @@ abbrev pub ◌>>=◌ : {X Y : Type 0} → Outcome X → (X × List Token → Out
 (Ok x) >>= f = f x
 (Err e) >>= f = Err e
 
--- What a function returned, seen by view, is what reading gives, unless memory ran out.
-abbrev pub Fails : {Y : Type 0} → ParseFault → Outcome Y → Type 0
-Fails OutOfMemory read = Unit {0}
-Fails (Unexpected p) read = read ≡ Err (Unexpected p)
-Fails (TooDeep p) read = read ≡ Err (TooDeep p)
-
-abbrev pub Gives : {X Y : Type 0} → (X → Y × List Token) → Result X ParseFault → Outcome Y → Type 0
-Gives view (Ok x) read = read ≡ Ok (view x)
-Gives view (Err e) read = Fails e read
-
--- What a function that takes no memory returned, seen by view, is what reading gives.
-abbrev pub Reads : {X Y : Type 0} → (X → Y × List Token) → Result X ParseFault → Outcome Y → Type 0
-Reads view (Ok x) read = read ≡ Ok (view x)
-Reads view (Err e) read = read ≡ Err e
-
 abbrev pub kind_of : List Token → Kind
 kind_of [] = k.End
 kind_of (x ∷ xs) = x.kind
+
+-- the kind behind a reference, if there is one
+abbrev pub seen : Option (Bor Kind) → Kind
+seen None = k.End
+seen (Some kind) = kind.now
+
+abbrev pub is_end : Kind → Bool
+is_end k.End = true
+is_end _ = false
+
+-- whether there are no tokens, or the last is the end of the text
+abbrev pub ends : List Token → Bool
+ends [] = true
+ends (x ∷ []) = is_end x.kind
+ends (x ∷ y ∷ ts) = ends (y ∷ ts)
 
 abbrev pub nowhere : Place
 nowhere = record { line = 0; column = 0 }
@@ -47,8 +50,11 @@ abbrev pub place_of : List Token → Place
 place_of [] = nowhere
 place_of (x ∷ xs) = x.place
 
+abbrev pub unexpected : List Token → ParseFault
+unexpected ts = Unexpected (place_of ts)
+
 abbrev pub refuse : {X : Type 0} → List Token → Outcome X
-refuse ts = Err (Unexpected (place_of ts))
+refuse ts = Err (unexpected ts)
 
 -- The room is how many levels may still be added, and one more: at 0 any token is too deep.
 abbrev pub take : ℕ → List Token → Outcome Token
@@ -75,17 +81,19 @@ begins_by None None true operand = true
 begins_by None None false operand = operand
 
 abbrev pub is_eof : Kind → Bool
-is_eof kind = same kind (k.Reserved (codes "EOF"))
+is_eof kind = same kind (k.Reserved END_OF_FILE.now)
 
 abbrev pub opens : Kind → Bool
-opens kind = same kind (sign (codes "("))
+opens kind = same kind (k.Sign PARENTHESIS_OPEN)
 
 abbrev pub closes : Kind → Bool
-closes kind = same kind (sign (codes ")"))
+closes kind = same kind (k.Sign PARENTHESIS_CLOSE)
+
+abbrev pub is_operand : Kind → Bool
+is_operand kind = operand_by kind (is_eof kind) (builtin kind)
 
 abbrev pub begins : Kind → Bool
-begins kind = begins_by (unary_op kind) (first_step kind) (opens kind)
-    (operand_by kind (is_eof kind) (builtin kind))
+begins kind = begins_by (unary_op kind) (first_step kind) (opens kind) (is_operand kind)
 
 -- where no rule may be opened any more
 abbrev pub fault_at_start : List Token → ParseFault
@@ -112,7 +120,7 @@ base_by None true r ts = do
 base_by None false r ts = refuse ts
 
 abbrev pub is_unsigned : Kind → Bool
-is_unsigned kind = same kind (k.Reserved (codes "unsigned"))
+is_unsigned kind = same kind (k.Reserved UNSIGNED.now)
 
 abbrev pub base : ℕ → List Token → Outcome Ty
 base r ts = base_by (plain_base (kind_of ts)) (is_unsigned (kind_of ts)) r ts

@@ -1,11 +1,12 @@
 -- What a parser answers for a rule of the grammar. A rule says which tokens spell which tree.
-use Rattle.std.specs.Prelude.{◌≡◌, ℕ, ◌<◌, List, [], ◌∷◌, ◌++◌, length, drop, Result, Ok, Err}
+use Rattle.std.specs.Prelude.{◌≡◌, ℕ, ◌<◌, ◌≤◌, List, [], ◌∷◌, ◌++◌, length, drop, Result, Ok, Err}
 use Rattle.c_tree.specs.declared.place.Place.{Place}
 use Rattle.c_tree.specs.declared.tree.Expr.{Expr as ExprTree}
 use Rattle.c_tree.specs.Expr.{Expr}
 use Rattle.c_tree.specs.View.{expr_of}
 use Rattle.c_token.specs.declared.token.Kind.TheVariants as k
 use Rattle.c_token.specs.declared.token.Token.{Token}
+use Rattle.c_expr.specs.declared.level.TheConstants.{LEVELS}
 use Rattle.c_expr.specs.declared.fault.ParseFault.{ParseFault}
 use Rattle.c_expr.specs.declared.fault.ParseFault.TheVariants.{Unexpected, TooDeep, OutOfMemory}
 use Rattle.c_expr.specs.Leveled.{Leveled, tokens_of, AreBelow}
@@ -30,23 +31,29 @@ pub record IsRead {X : Type 0} (P : List Leveled → X → Type 0) (ts : List To
   pub read : List Leveled
   pub splits : ts ≡ tokens_of read ++ rest
   pub spelled : P read tree
-  pub low : AreBelow 201 read
+  pub low : AreBelow LEVELS read
   pub no_further : GoesNoFurther P read rest
 
--- The tokens before this one begin a list of the rule and are none, and with it they begin none.
-pub record IsUnexpected {X : Type 0} (P : List Leveled → X → Type 0) (ts : List Token)
+-- The tokens before this one begin a list of the rule, and with it they begin none.
+pub record IsOutOfPlace {X : Type 0} (P : List Leveled → X → Type 0) (ts : List Token)
     (place : Place) : Type 0 where
   pub read : List Leveled
   pub next : Token
   pub rest : List Token
   pub splits : ts ≡ tokens_of read ++ next ∷ rest
   pub is_at : place ≡ next.place
-  pub low : AreBelow 201 read
+  pub low : AreBelow LEVELS read
   pub more : List Leveled
   pub tree : X
   pub begins : P (read ++ more) tree
-  pub unfinished : (all : List Leveled) (tree : X) → P all tree → tokens_of all ≡ tokens_of read → ⊥
   pub no_further : GoesNoFurther P read (next ∷ rest)
+
+-- The same, and the tokens before it are no list of the rule.
+pub record IsUnexpected {X : Type 0} (P : List Leveled → X → Type 0) (ts : List Token)
+    (place : Place) : Type 0 where
+  pub stop : IsOutOfPlace P ts place
+  pub unfinished : (all : List Leveled) (tree : X) → P all tree
+      → tokens_of all ≡ tokens_of stop.read → ⊥
 
 -- The tokens up to and with this one begin a list of the rule, in which it is the first whose level is above 200.
 pub record IsTooDeep {X : Type 0} (P : List Leveled → X → Type 0) (ts : List Token)
@@ -56,8 +63,8 @@ pub record IsTooDeep {X : Type 0} (P : List Leveled → X → Type 0) (ts : List
   pub rest : List Token
   pub splits : ts ≡ tokens_of read ++ deep.token ∷ rest
   pub is_at : place ≡ deep.token.place
-  pub low : AreBelow 201 read
-  pub is_deep : 200 < deep.level
+  pub low : AreBelow LEVELS read
+  pub is_deep : LEVELS ≤ deep.level
   pub more : List Leveled
   pub tree : X
   pub begins : P (read ++ deep ∷ more) tree

@@ -17,6 +17,7 @@ use Rattle.c_tree.specs.Ty as ty
 use Rattle.c_token.specs.declared.token.Kind.{Kind}
 use Rattle.c_token.specs.declared.token.Kind.TheVariants as k
 use Rattle.c_token.specs.Signs.{padded}
+use Rattle.c_expr.specs.declared.keyword.TheConstants.{INT, CHAR, GETCHAR, PUTCHAR}
 
 abbrev pub sign : List ℕ → Kind
 sign bytes = k.Sign (padded bytes)
@@ -59,49 +60,22 @@ binary_ops =
 abbrev pub binary_op : Kind → Option Binary
 binary_op = find binary_ops
 
--- The rules `mul` to `lor`, the tightest first. Each operator belongs to one of them.
-abbrev pub mul : ℕ
-mul = 1
-
-abbrev pub sum : ℕ
-sum = 2
-
-abbrev pub shift : ℕ
-shift = 3
-
-abbrev pub order : ℕ
-order = 4
-
-abbrev pub equal : ℕ
-equal = 5
-
-abbrev pub band : ℕ
-band = 6
-
-abbrev pub bxor : ℕ
-bxor = 7
-
-abbrev pub bor : ℕ
-bor = 8
-
-abbrev pub land : ℕ
-land = 9
-
+-- The rank of each group's rule, from `mul` to `lor`, the tightest first.
 abbrev pub lor : ℕ
 lor = 10
 
 abbrev pub group_rank : Group → ℕ
+group_rank by.Product = 1
+group_rank by.Sum = 2
+group_rank by.Difference = 2
+group_rank by.Shift = 3
+group_rank by.Order = 4
+group_rank by.Equality = 5
+group_rank by.BitAnd = 6
+group_rank by.BitXor = 7
+group_rank by.BitOr = 8
+group_rank by.And = 9
 group_rank by.Or = lor
-group_rank by.And = land
-group_rank by.BitOr = bor
-group_rank by.BitXor = bxor
-group_rank by.BitAnd = band
-group_rank by.Equality = equal
-group_rank by.Order = order
-group_rank by.Shift = shift
-group_rank by.Sum = sum
-group_rank by.Difference = sum
-group_rank by.Product = mul
 
 abbrev pub rank : Binary → ℕ
 rank op = group_rank (group op)
@@ -130,7 +104,7 @@ last_step = find last_steps
 
 -- the callees that are reserved words
 abbrev pub builtins : List (Kind × Callee)
-builtins = (k.Reserved (codes "getchar"), c.Getchar) ∷ (k.Reserved (codes "putchar"), c.Putchar)
+builtins = (k.Reserved GETCHAR.now, c.Getchar) ∷ (k.Reserved PUTCHAR.now, c.Putchar)
     ∷ []
 
 abbrev pub builtin : Kind → Option Callee
@@ -138,7 +112,7 @@ builtin = find builtins
 
 -- the bases of one word
 abbrev pub plain_bases : List (Kind × Ty)
-plain_bases = (k.Reserved (codes "int"), ty.Int) ∷ (k.Reserved (codes "char"), ty.Char) ∷ []
+plain_bases = (k.Reserved INT.now, ty.Int) ∷ (k.Reserved CHAR.now, ty.Char) ∷ []
 
 abbrev pub plain_base : Kind → Option Ty
 plain_base = find plain_bases

@@ -5,7 +5,9 @@ ghost use Rattle.c_expr.specs.Grammar.{IsAssign, IsCond};
 ghost use Rattle.c_expr.specs.Parsing.{ParsedAt, IsEnded};
 ghost use Rattle.c_expr.specs.private.ParserRules.{IsRule};
 
+use crate::cursor::Cursor;
 use crate::fault::ParseFault;
+use crate::level::LEVELS;
 use crate::parse::open_rule;
 use crate::rule::Rule;
 use c_token::Token;
@@ -23,9 +25,13 @@ fn parse_rule(
     requires ended { IsEnded tokens.now }
     ensures { ParsedAt (IsRule which level) tokens.now at result }
 {
-    let room = 201u32.saturating_sub(level);
-    let (found, rest) = open_rule(alloc, which, &tokens[at..], room)?;
-    Ok((found, tokens.len().saturating_sub(rest.len())))
+    let room = LEVELS.saturating_sub(level);
+    let mut cursor = Cursor {
+        tokens: &tokens[at..],
+        room,
+    };
+    let found = open_rule(alloc, which, &mut cursor)?;
+    Ok((found, tokens.len().saturating_sub(cursor.tokens.len())))
 }
 
 /// Reads an expression (C11 6.5.16) from a place of the tokens on, and answers its tree and the first

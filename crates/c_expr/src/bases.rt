@@ -3,22 +3,21 @@
 ghost use Rattle.std.specs.Prelude.{◌≡◌, option_map};
 ghost use Rattle.c_tree.specs.View.{ty_of};
 ghost use Rattle.c_expr.specs.Next as next;
-ghost use Rattle.c_expr.specs.Next.{Reads};
+ghost use Rattle.c_expr.specs.Reads.{ReadsInPlace};
 ghost use Rattle.c_expr.specs.Spelled as spelled;
 
+use crate::cursor::Cursor;
 use crate::fault::ParseFault;
-use crate::reader::{place_of, take};
-use crate::spelled::is_word;
-use c_token::Token;
+use crate::keyword::{CHAR, INT, UNSIGNED};
 use c_tree::CType;
 
 /// A base that is one word.
-fn plain_base(rest: &[Token]) -> Option<CType>
-    ensures { option_map ty_of result ≡ spelled.plain_base (next.kind_of rest.now) }
+fn plain_base(cursor: &Cursor) -> Option<CType>
+    ensures { option_map ty_of result ≡ spelled.plain_base (next.kind_of cursor.now.tokens.now) }
 {
-    if is_word(rest, "int") {
+    if cursor.is_word(INT) {
         Some(CType::Int)
-    } else if is_word(rest, "char") {
+    } else if cursor.is_word(CHAR) {
         Some(CType::Char)
     } else {
         None
@@ -26,38 +25,38 @@ fn plain_base(rest: &[Token]) -> Option<CType>
 }
 
 /// Whether the next token begins a base.
-pub fn is_base(rest: &[Token]) -> bool
-    ensures { result ≡ next.is_base (next.kind_of rest.now) }
+pub fn is_base(cursor: &Cursor) -> bool
+    ensures { result ≡ next.is_base (next.kind_of cursor.now.tokens.now) }
 {
-    plain_base(rest).is_some() || is_word(rest, "unsigned")
+    plain_base(cursor).is_some() || cursor.is_word(UNSIGNED)
 }
 
 /// A base (C11 6.7.2).
-pub fn parse_base(rest: &[Token], room: u32) -> Result<(CType, &[Token]), ParseFault>
-    ensures { Reads (λ x. (ty_of x.0, x.1.now)) result (next.base room rest.now) }
+pub fn parse_base(cursor: &mut Cursor) -> Result<CType, ParseFault>
+    ensures { ReadsInPlace ty_of result cursor.old cursor.new next.base }
 {
-    if let Some(plain) = plain_base(rest) {
-        let (_, rest) = take(rest, room)?;
-        Ok((plain, rest))
-    } else if is_word(rest, "unsigned") {
-        let (_, rest) = take(rest, room)?;
-        parse_after_unsigned(rest, room)
+    if let Some(plain) = plain_base(cursor) {
+        cursor.take()?;
+        Ok(plain)
+    } else if cursor.is_word(UNSIGNED) {
+        cursor.take()?;
+        parse_after_unsigned(cursor)
     } else {
-        Err(ParseFault::Unexpected(place_of(rest)))
+        Err(cursor.unexpected())
     }
 }
 
-fn parse_after_unsigned(rest: &[Token], room: u32) -> Result<(CType, &[Token]), ParseFault>
-    ensures { Reads (λ x. (ty_of x.0, x.1.now)) result
-        (next.after_unsigned (spelled.plain_base (next.kind_of rest.now)) room rest.now) }
+fn parse_after_unsigned(cursor: &mut Cursor) -> Result<CType, ParseFault>
+    ensures { ReadsInPlace ty_of result cursor.old cursor.new
+        (λ r ts. next.after_unsigned (spelled.plain_base (next.kind_of ts)) r ts) }
 {
-    if is_word(rest, "int") {
-        let (_, rest) = take(rest, room)?;
-        Ok((CType::Unsigned, rest))
-    } else if is_word(rest, "char") {
-        let (_, rest) = take(rest, room)?;
-        Ok((CType::Char, rest))
+    if cursor.is_word(INT) {
+        cursor.take()?;
+        Ok(CType::Unsigned)
+    } else if cursor.is_word(CHAR) {
+        cursor.take()?;
+        Ok(CType::Char)
     } else {
-        Ok((CType::Unsigned, rest))
+        Ok(CType::Unsigned)
     }
 }

@@ -4,72 +4,53 @@ ghost use Rattle.std.specs.Prelude.{◌≡◌};
 ghost use Rattle.c_expr.specs.Next as next;
 ghost use Rattle.c_expr.specs.Spelled as spelled;
 
+use crate::cursor::Cursor;
 use crate::fault::ParseFault;
-use crate::reader::place_of;
-use crate::spelled::{first_step, is_sign, is_word, unary_op};
-use c_token::{Kind, Token};
+use crate::keyword::{END_OF_FILE, GETCHAR, PUTCHAR};
+use crate::punctuator::PARENTHESIS_OPEN;
+use crate::spelled::{first_step, unary_op};
+use c_token::Kind;
 use c_tree::Callee;
 
 /// The callee that is a reserved word.
-pub(crate) fn builtin(rest: &[Token]) -> Option<Callee>
-    ensures { result ≡ spelled.builtin (next.kind_of rest.now) }
+pub(crate) fn builtin(cursor: &Cursor) -> Option<Callee>
+    ensures { result ≡ spelled.builtin (next.kind_of cursor.now.tokens.now) }
 {
-    if is_word(rest, "getchar") {
+    if cursor.is_word(GETCHAR) {
         Some(Callee::Getchar)
-    } else if is_word(rest, "putchar") {
+    } else if cursor.is_word(PUTCHAR) {
         Some(Callee::Putchar)
     } else {
         None
     }
 }
 
-fn is_operand(rest: &[Token]) -> bool
-    ensures { result ≡ next.operand_by (next.kind_of rest.now)
-        (next.is_eof (next.kind_of rest.now)) (spelled.builtin (next.kind_of rest.now)) }
+fn is_operand(cursor: &Cursor) -> bool
+    ensures { result ≡ next.is_operand (next.kind_of cursor.now.tokens.now) }
 {
-    match rest {
-        [
-            Token {
-                kind: Kind::Name(_),
-                ..
-            },
-            ..
-        ] => true,
-        [
-            Token {
-                kind: Kind::Number(_, _),
-                ..
-            },
-            ..
-        ] => true,
-        [
-            Token {
-                kind: Kind::Character(_),
-                ..
-            },
-            ..
-        ] => true,
-        _ => is_word(rest, "EOF") || is_word(rest, "getchar") || is_word(rest, "putchar"),
+    match cursor.kind() {
+        Some(Kind::Name(_)) | Some(Kind::Number(_, _)) | Some(Kind::Character(_)) => true,
+        _ => { cursor.is_word(END_OF_FILE) || cursor.is_word(GETCHAR) || cursor.is_word(PUTCHAR) }
     }
 }
 
 /// Whether the next token begins an expression.
-pub fn begins(rest: &[Token]) -> bool
-    ensures { result ≡ next.begins (next.kind_of rest.now) }
+pub fn begins(cursor: &Cursor) -> bool
+    ensures { result ≡ next.begins (next.kind_of cursor.now.tokens.now) }
 {
-    unary_op(rest).is_some()
-        || first_step(rest).is_some()
-        || is_sign(rest, *b"(\0\0")
-        || is_operand(rest)
+    unary_op(cursor).is_some()
+        || first_step(cursor).is_some()
+        || cursor.is_sign(PARENTHESIS_OPEN)
+        || is_operand(cursor)
 }
 
 /// Where no rule may be opened any more.
-pub(crate) fn fault_at_start(rest: &[Token]) -> ParseFault
-    ensures { result ≡ next.fault_at_start rest.now }
+pub(crate) fn fault_at_start(cursor: &Cursor) -> ParseFault
+    ensures { result ≡ next.fault_at_start cursor.now.tokens.now }
 {
-    if begins(rest) {
-        ParseFault::TooDeep(place_of(rest))
+    if begins(cursor) {
+        ParseFault::TooDeep(cursor.place())
     } else {
-        ParseFault::Unexpected(place_of(rest))
+        cursor.unexpected()
     }
 }

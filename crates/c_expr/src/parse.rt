@@ -1,29 +1,30 @@
-//! Recursive descent. Each function reads a rule from the front of the tokens, and answers its tree and what is left.
+//! Recursive descent. Each function reads a rule where the cursor is, and answers its tree.
 
 ghost use Rattle.std.specs.Prelude.{◌≡◌, ◌<◌, map};
 ghost use Rattle.c_tree.specs.View.{expr_of};
-ghost use Rattle.c_expr.specs.Next as next;
 ghost use Rattle.c_expr.specs.private.ExpressionReading as read;
-ghost use Rattle.c_expr.specs.Next.{Gives};
-ghost use Rattle.c_expr.specs.Spelled as spelled;
+ghost use Rattle.c_expr.specs.Next.{kind_of};
+ghost use Rattle.c_expr.specs.Reads.{Reads};
 
 use crate::bases::{is_base, parse_base};
+use crate::cursor::Cursor;
 use crate::fault::ParseFault;
+use crate::keyword::END_OF_FILE;
 use crate::node;
 use crate::opening::{builtin, fault_at_start};
-use crate::reader::{expect, place_of, take};
-use crate::rule::Rule;
-use crate::spelled::{
-    assign_op, binary_op, first_step, is_sign, is_word, last_step, rank, unary_op,
+use crate::punctuator::{
+    BRACKET_CLOSE, BRACKET_OPEN, COLON, COMMA, PARENTHESIS_CLOSE, PARENTHESIS_OPEN, QUESTION,
 };
-use c_token::{Kind, Token};
+use crate::rule::Rule;
+use crate::spelled::{assign_op, binary_op, first_step, last_step, rank, unary_op};
+use c_token::Kind;
 use c_tree::{Binary, Callee, Expr, Name, Place};
 use std::alloc::Global;
 
-fn operator_of(at: u32, rest: &[Token]) -> Option<Binary>
-    ensures { result ≡ read.operator_of at (next.kind_of rest.now) }
+fn operator_of(at: u32, cursor: &Cursor) -> Option<Binary>
+    ensures { result ≡ read.operator_of at (kind_of cursor.now.tokens.now) }
 {
-    match binary_op(rest) {
+    match binary_op(cursor) {
         Some(operator) if rank(operator) == at => Some(operator),
         _ => None,
     }
@@ -32,305 +33,244 @@ fn operator_of(at: u32, rest: &[Token]) -> Option<Binary>
 /// Opens a rule, which adds a level.
 #[tactic(auto, using(crate::proofs::Depth::ruled_open, crate::proofs::Depth::ruled_stop))]
 #[cycle(rules)]
-pub(crate) fn open_rule(
-    alloc: Global,
-    which: Rule,
-    rest: &[Token],
-    room: u32,
-) -> Result<(Expr, &[Token]), ParseFault>
-    ensures { Gives (λ x. (expr_of x.0, x.1.now)) result (read.ruled which room rest.now) }
+pub(crate) fn open_rule(alloc: Global, which: Rule, cursor: &mut Cursor) -> Result<Expr, ParseFault>
+    ensures { Reads expr_of result cursor.old cursor.new (read.ruled which) }
 {
-    if room == 0 {
-        return Err(fault_at_start(rest));
+    if cursor.room == 0 {
+        return Err(fault_at_start(cursor));
     }
+    cursor.room -= 1;
+    let found = parse_inside(alloc, which, cursor)?;
+    cursor.room += 1;
+    Ok(found)
+}
+
+/// What a rule is, once it is opened.
+#[cycle(rules)]
+fn parse_inside(alloc: Global, which: Rule, cursor: &mut Cursor) -> Result<Expr, ParseFault>
+    ensures { Reads expr_of result cursor.old cursor.new (read.inside read.ruled which) }
+{
     match which {
-        Rule::Assign => parse_assign(alloc, rest, room - 1),
-        Rule::Cond => parse_conditional(alloc, rest, room - 1),
-        Rule::Unary => parse_unary(alloc, rest, room - 1),
+        Rule::Assign => parse_assign(alloc, cursor),
+        Rule::Cond => parse_conditional(alloc, cursor),
+        Rule::Unary => parse_unary(alloc, cursor),
     }
 }
 
 /// An expression that may be an assignment (C11 6.5.16).
 #[tactic(auto, unfolding(crate::specs::private::ExpressionReading::assign_inside))]
 #[cycle(rules)]
-fn parse_assign(alloc: Global, rest: &[Token], room: u32) -> Result<(Expr, &[Token]), ParseFault>
-    ensures { Gives (λ x. (expr_of x.0, x.1.now)) result
-        (read.assign_inside read.ruled room rest.now) }
+fn parse_assign(alloc: Global, cursor: &mut Cursor) -> Result<Expr, ParseFault>
+    ensures { Reads expr_of result cursor.old cursor.new (read.assign_inside read.ruled) }
 {
-    let (left, rest) = open_rule(alloc, Rule::Cond, rest, room)?;
-    match assign_op(rest) {
+    let left = open_rule(alloc, Rule::Cond, cursor)?;
+    match assign_op(cursor) {
         Some(how) => {
-            let (mark, rest) = take(rest, room)?;
-            let (right, rest) = open_rule(alloc, Rule::Assign, rest, room)?;
-            Ok((
-                node::build_assign(alloc, how, left, right, mark.place)?,
-                rest,
-            ))
+            let place = cursor.take()?.place;
+            let right = open_rule(alloc, Rule::Assign, cursor)?;
+            Ok(node::build_assign(alloc, how, left, right, place)?)
         }
-        None => Ok((left, rest)),
+        None => Ok(left),
     }
 }
 
 /// A conditional expression (C11 6.5.15).
 #[tactic(auto, unfolding(crate::specs::private::ExpressionReading::cond_inside))]
 #[cycle(rules)]
-fn parse_conditional(
-    alloc: Global,
-    rest: &[Token],
-    room: u32,
-) -> Result<(Expr, &[Token]), ParseFault>
-    ensures { Gives (λ x. (expr_of x.0, x.1.now)) result
-        (read.cond_inside read.ruled room rest.now) }
+fn parse_conditional(alloc: Global, cursor: &mut Cursor) -> Result<Expr, ParseFault>
+    ensures { Reads expr_of result cursor.old cursor.new (read.cond_inside read.ruled) }
 {
-    let (test, rest) = parse_binary(alloc, rest, room, 10)?;
-    if !is_sign(rest, *b"?\0\0") {
-        return Ok((test, rest));
+    let test = parse_binary(alloc, 10, cursor)?;
+    if !cursor.is_sign(QUESTION) {
+        return Ok(test);
     }
-    let (mark, rest) = take(rest, room)?;
-    let (yes, rest) = open_rule(alloc, Rule::Assign, rest, room)?;
-    let (_, rest) = expect(*b":\0\0", rest, room)?;
-    let (no, rest) = open_rule(alloc, Rule::Cond, rest, room)?;
-    Ok((
-        node::build_conditional(alloc, test, yes, no, mark.place)?,
-        rest,
-    ))
+    let place = cursor.take()?.place;
+    let yes = open_rule(alloc, Rule::Assign, cursor)?;
+    cursor.expect(COLON)?;
+    let no = open_rule(alloc, Rule::Cond, cursor)?;
+    Ok(node::build_conditional(alloc, test, yes, no, place)?)
 }
 
 /// Operands that are joined by operators of this rank and of tighter ones (C11 6.5.5 to 6.5.14).
+/// Each operator adds a level to what follows.
 #[tactic(auto, unfolding(crate::specs::private::ExpressionReading::binary))]
 #[cycle(rules)]
-fn parse_binary(
-    alloc: Global,
-    tokens: &[Token],
-    mut room: u32,
-    at: u32,
-) -> Result<(Expr, &[Token]), ParseFault>
-    ensures { Gives (λ x. (expr_of x.0, x.1.now)) result
-        (read.binary read.ruled at room tokens.now) }
+fn parse_binary(alloc: Global, at: u32, cursor: &mut Cursor) -> Result<Expr, ParseFault>
+    ensures { Reads expr_of result cursor.old cursor.new (read.binary read.ruled at) }
 {
     if at == 0 {
-        return open_rule(alloc, Rule::Unary, tokens, room);
+        return open_rule(alloc, Rule::Unary, cursor);
     }
-    let (mut left, mut rest) = parse_binary(alloc, tokens, room, at - 1)?;
-    while let Some(operator) = operator_of(at, rest) {
-        let (mark, after) = take(rest, room)?;
-        room -= 1;
-        let (right, after) = parse_binary(alloc, after, room, at - 1)?;
-        left = node::build_binary(alloc, operator, left, right, mark.place)?;
-        rest = after;
+    let room = cursor.room;
+    let mut left = parse_binary(alloc, at - 1, cursor)?;
+    while let Some(operator) = operator_of(at, cursor) {
+        let place = cursor.take()?.place;
+        cursor.room -= 1;
+        let right = parse_binary(alloc, at - 1, cursor)?;
+        left = node::build_binary(alloc, operator, left, right, place)?;
     }
-    Ok((left, rest))
+    cursor.room = room;
+    Ok(left)
 }
 
-/// An expression that operators stand before or behind, or none (C11 6.5.3 and 6.5.4).
+/// An expression that operators stand before or after, or none (C11 6.5.3 and 6.5.4).
 #[tactic(auto, unfolding(crate::specs::private::ExpressionReading::unary_inside))]
 #[cycle(rules)]
-fn parse_unary(alloc: Global, rest: &[Token], room: u32) -> Result<(Expr, &[Token]), ParseFault>
-    ensures { Gives (λ x. (expr_of x.0, x.1.now)) result
-        (read.unary_inside read.ruled room rest.now) }
+fn parse_unary(alloc: Global, cursor: &mut Cursor) -> Result<Expr, ParseFault>
+    ensures { Reads expr_of result cursor.old cursor.new (read.unary_inside read.ruled) }
 {
-    if let Some(op) = unary_op(rest) {
-        let (mark, rest) = take(rest, room)?;
-        let (of, rest) = open_rule(alloc, Rule::Unary, rest, room)?;
-        Ok((node::build_unary(alloc, op, of, mark.place)?, rest))
-    } else if let Some(how) = first_step(rest) {
-        let (mark, rest) = take(rest, room)?;
-        let (of, rest) = open_rule(alloc, Rule::Unary, rest, room)?;
-        Ok((node::build_step(alloc, how, of, mark.place)?, rest))
-    } else if is_sign(rest, *b"(\0\0") {
-        let (opened, rest) = take(rest, room)?;
-        parse_cast_or_group(alloc, opened.place, rest, room)
+    if let Some(op) = unary_op(cursor) {
+        let place = cursor.take()?.place;
+        let of = open_rule(alloc, Rule::Unary, cursor)?;
+        Ok(node::build_unary(alloc, op, of, place)?)
+    } else if let Some(how) = first_step(cursor) {
+        let place = cursor.take()?.place;
+        let of = open_rule(alloc, Rule::Unary, cursor)?;
+        Ok(node::build_step(alloc, how, of, place)?)
+    } else if cursor.is_sign(PARENTHESIS_OPEN) {
+        let place = cursor.take()?.place;
+        parse_cast_or_group(alloc, place, cursor)
     } else {
-        let (of, rest) = parse_primary(alloc, rest, room)?;
-        parse_suffixes(alloc, of, rest, room)
+        let of = parse_primary(alloc, cursor)?;
+        parse_suffixes(alloc, of, cursor)
     }
 }
 
-/// Behind a parenthesis: a cast, or an expression in parentheses.
-#[tactic(auto)]
+/// After a parenthesis: a cast, or an expression in parentheses.
 #[cycle(rules)]
-fn parse_cast_or_group(
-    alloc: Global,
-    place: Place,
-    rest: &[Token],
-    room: u32,
-) -> Result<(Expr, &[Token]), ParseFault>
-    ensures { Gives (λ x. (expr_of x.0, x.1.now)) result
-        (read.after_open read.ruled (next.is_base (next.kind_of rest.now)) place room rest.now) }
+fn parse_cast_or_group(alloc: Global, place: Place, cursor: &mut Cursor) -> Result<Expr, ParseFault>
+    ensures { Reads expr_of result cursor.old cursor.new (read.cast_or_group read.ruled place) }
 {
-    if is_base(rest) {
-        let (to, rest) = parse_base(rest, room)?;
-        let (_, rest) = expect(*b")\0\0", rest, room)?;
-        let (of, rest) = open_rule(alloc, Rule::Unary, rest, room)?;
-        Ok((node::build_cast(alloc, to, of, place)?, rest))
+    if is_base(cursor) {
+        let to = parse_base(cursor)?;
+        cursor.expect(PARENTHESIS_CLOSE)?;
+        let of = open_rule(alloc, Rule::Unary, cursor)?;
+        Ok(node::build_cast(alloc, to, of, place)?)
     } else {
-        let (inner, rest) = open_rule(alloc, Rule::Assign, rest, room)?;
-        let (_, rest) = expect(*b")\0\0", rest, room)?;
-        parse_suffixes(alloc, inner, rest, room)
+        let inner = open_rule(alloc, Rule::Assign, cursor)?;
+        cursor.expect(PARENTHESIS_CLOSE)?;
+        parse_suffixes(alloc, inner, cursor)
     }
 }
 
-/// The suffixes behind an expression (C11 6.5.2.1 and 6.5.2.4).
-#[tactic(auto)]
+/// The suffixes of an expression (C11 6.5.2.1 and 6.5.2.4). Each adds a level to what follows.
 #[cycle(rules)]
-fn parse_suffixes(
-    alloc: Global,
-    first: Expr,
-    tokens: &[Token],
-    mut room: u32,
-) -> Result<(Expr, &[Token]), ParseFault>
-    ensures { Gives (λ x. (expr_of x.0, x.1.now)) result
-        (read.suffixes_from read.ruled room (expr_of first) tokens.now) }
+fn parse_suffixes(alloc: Global, first: Expr, cursor: &mut Cursor) -> Result<Expr, ParseFault>
+    ensures { Reads expr_of result cursor.old cursor.new
+        (λ r. read.suffixes_from read.ruled r (expr_of first)) }
 {
+    let room = cursor.room;
     let mut value = first;
-    let mut rest = tokens;
     loop {
-        if is_sign(rest, *b"[\0\0") {
-            let (opened, after) = take(rest, room)?;
-            let (index, after) = open_rule(alloc, Rule::Assign, after, room)?;
-            let (_, after) = expect(*b"]\0\0", after, room)?;
-            value = node::build_index(alloc, value, index, opened.place)?;
-            rest = after;
-        } else if let Some(how) = last_step(rest) {
-            let (mark, after) = take(rest, room)?;
-            value = node::build_step(alloc, how, value, mark.place)?;
-            rest = after;
+        if cursor.is_sign(BRACKET_OPEN) {
+            let place = cursor.take()?.place;
+            let index = open_rule(alloc, Rule::Assign, cursor)?;
+            cursor.expect(BRACKET_CLOSE)?;
+            value = node::build_index(alloc, value, index, place)?;
+        } else if let Some(how) = last_step(cursor) {
+            let place = cursor.take()?.place;
+            value = node::build_step(alloc, how, value, place)?;
         } else {
-            return Ok((value, rest));
+            cursor.room = room;
+            return Ok(value);
         }
-        room -= 1;
+        cursor.room -= 1;
     }
 }
 
 /// A name, a call, or a constant (C11 6.5.1 and 6.5.2.2).
-#[tactic(auto)]
 #[cycle(rules)]
-fn parse_primary(alloc: Global, rest: &[Token], room: u32) -> Result<(Expr, &[Token]), ParseFault>
-    ensures { Gives (λ x. (expr_of x.0, x.1.now)) result (read.primary read.ruled room rest.now) }
+fn parse_primary(alloc: Global, cursor: &mut Cursor) -> Result<Expr, ParseFault>
+    ensures { Reads expr_of result cursor.old cursor.new (read.primary read.ruled) }
 {
-    match rest {
-        [
-            Token {
-                kind: Kind::Name(name),
-                ..
-            },
-            ..
-        ] => {
-            let (first, rest) = take(rest, room)?;
-            parse_name(alloc, name, first.place, rest, room)
+    match cursor.kind() {
+        Some(Kind::Name(name)) => {
+            let place = cursor.take()?.place;
+            parse_name(alloc, name, place, cursor)
         }
-        [
-            Token {
-                kind: Kind::Number(ty, value),
-                ..
-            },
-            ..
-        ] => {
-            let (first, rest) = take(rest, room)?;
-            let ty = ty.again(alloc)?;
-            Ok((node::build_number(ty, *value, first.place), rest))
+        Some(Kind::Number(ty, value)) => {
+            let place = cursor.take()?.place;
+            Ok(node::build_number(ty.again(alloc)?, *value, place))
         }
-        [
-            Token {
-                kind: Kind::Character(code),
-                ..
-            },
-            ..
-        ] => {
-            let (first, rest) = take(rest, room)?;
-            Ok((node::build_character(*code, first.place), rest))
+        Some(Kind::Character(code)) => {
+            let place = cursor.take()?.place;
+            Ok(node::build_character(*code, place))
         }
-        _ => parse_reserved(alloc, rest, room),
+        _ => parse_reserved(alloc, cursor),
     }
 }
 
 /// A primary expression that begins with a reserved word.
-#[tactic(auto)]
 #[cycle(rules)]
-fn parse_reserved(alloc: Global, rest: &[Token], room: u32) -> Result<(Expr, &[Token]), ParseFault>
-    ensures { Gives (λ x. (expr_of x.0, x.1.now)) result
-        (read.reserved read.ruled (next.is_eof (next.kind_of rest.now))
-        (spelled.builtin (next.kind_of rest.now)) room rest.now) }
+fn parse_reserved(alloc: Global, cursor: &mut Cursor) -> Result<Expr, ParseFault>
+    ensures { Reads expr_of result cursor.old cursor.new (read.by_word read.ruled) }
 {
-    if is_word(rest, "EOF") {
-        let (first, rest) = take(rest, room)?;
-        Ok((node::build_eof(first.place), rest))
-    } else if let Some(callee) = builtin(rest) {
-        let (first, rest) = take(rest, room)?;
-        let (_, rest) = expect(*b"(\0\0", rest, room)?;
-        parse_call(alloc, callee, first.place, rest, room)
+    if cursor.is_word(END_OF_FILE) {
+        let place = cursor.take()?.place;
+        Ok(node::build_eof(place))
+    } else if let Some(callee) = builtin(cursor) {
+        let place = cursor.take()?.place;
+        cursor.expect(PARENTHESIS_OPEN)?;
+        parse_call(alloc, callee, place, cursor)
     } else {
-        Err(ParseFault::Unexpected(place_of(rest)))
+        Err(cursor.unexpected())
     }
 }
 
 /// A name, or a call of it.
-#[tactic(auto)]
 #[cycle(rules)]
-fn parse_name<'a>(
+fn parse_name(
     alloc: Global,
     name: &Name,
     place: Place,
-    rest: &'a [Token],
-    room: u32,
-) -> Result<(Expr, &'a [Token]), ParseFault>
-    ensures { Gives (λ x. (expr_of x.0, x.1.now)) result
-        (read.after_name read.ruled
-        (next.opens (next.kind_of rest.now)) name.now place room rest.now) }
+    cursor: &mut Cursor,
+) -> Result<Expr, ParseFault>
+    ensures { Reads expr_of result cursor.old cursor.new
+        (read.name_or_call read.ruled name.now place) }
 {
     let name = name.again(alloc)?;
-    if is_sign(rest, *b"(\0\0") {
-        let (_, rest) = take(rest, room)?;
-        parse_call(alloc, Callee::Name(name), place, rest, room)
+    if cursor.is_sign(PARENTHESIS_OPEN) {
+        cursor.take()?;
+        parse_call(alloc, Callee::Name(name), place, cursor)
     } else {
-        Ok((node::build_name(name, place), rest))
+        Ok(node::build_name(name, place))
     }
 }
 
-/// A call, behind its parenthesis.
-#[tactic(auto)]
+/// A call, after its parenthesis.
 #[cycle(rules)]
 fn parse_call(
     alloc: Global,
     callee: Callee,
     place: Place,
-    rest: &[Token],
-    room: u32,
-) -> Result<(Expr, &[Token]), ParseFault>
-    ensures { Gives (λ x. (expr_of x.0, x.1.now)) result
-        (read.call read.ruled callee place room rest.now) }
+    cursor: &mut Cursor,
+) -> Result<Expr, ParseFault>
+    ensures { Reads expr_of result cursor.old cursor.new (read.call read.ruled callee place) }
 {
-    let (found, rest) = parse_arguments(alloc, rest, room)?;
-    Ok((node::build_call(callee, found, place), rest))
+    let found = parse_arguments(alloc, cursor)?;
+    Ok(node::build_call(callee, found, place))
 }
 
 /// The arguments of a call and the closing parenthesis.
-#[tactic(auto)]
 #[cycle(rules)]
-fn parse_arguments(
-    alloc: Global,
-    tokens: &[Token],
-    room: u32,
-) -> Result<(Vec<Expr>, &[Token]), ParseFault>
-    ensures { Gives (λ x. (map expr_of x.0.items, x.1.now)) result
-        (read.arguments_by read.ruled (next.closes (next.kind_of tokens.now)) room tokens.now) }
+fn parse_arguments(alloc: Global, cursor: &mut Cursor) -> Result<Vec<Expr>, ParseFault>
+    ensures { Reads (λ found. map expr_of found.items) result cursor.old cursor.new
+        (read.arguments read.ruled) }
 {
     let mut found = Vec::new(alloc);
-    if is_sign(tokens, *b")\0\0") {
-        let (_, rest) = take(tokens, room)?;
-        return Ok((found, rest));
+    if cursor.is_sign(PARENTHESIS_CLOSE) {
+        cursor.take()?;
+        return Ok(found);
     }
-    let mut rest = tokens;
-    for _ in 0..tokens.len() {
-        let (value, after) = open_rule(alloc, Rule::Assign, rest, room)?;
+    for _ in 0..cursor.tokens.len() {
+        let value = open_rule(alloc, Rule::Assign, cursor)?;
         found.push(value)?;
-        if is_sign(after, *b",\0\0") {
-            let (_, after) = take(after, room)?;
-            rest = after;
+        if cursor.is_sign(COMMA) {
+            cursor.take()?;
         } else {
-            let (_, after) = expect(*b")\0\0", after, room)?;
-            return Ok((found, after));
+            cursor.expect(PARENTHESIS_CLOSE)?;
+            return Ok(found);
         }
     }
-    Err(ParseFault::Unexpected(place_of(rest)))
+    Err(cursor.unexpected())
 }

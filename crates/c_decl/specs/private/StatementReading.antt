@@ -1,6 +1,5 @@
 -- How the parser reads statements, as a function on lists. It is a device for proofs: what is read rightly is said by `Statements`.
-use Rattle.std.specs.Prelude.{ℕ, zero, suc, List, [], ◌∷◌, ◌++◌, length, Bool, true, false, if◌then◌else◌, codes, Option, Some, None, Ok, Err, ◌⊎◌}
-use mathlib.Core.Logic.{inl, inr}
+use Rattle.std.specs.Prelude.{ℕ, zero, suc, List, [], ◌∷◌, length, Bool, true, false, if◌then◌else◌, Option, Some, None, Ok, Err, ◌⊎◌}
 use Rattle.c_tree.specs.declared.place.Place.{Place}
 use Rattle.c_tree.specs.declared.tree.Count.{Count}
 use Rattle.c_tree.specs.declared.tree.Count.TheVariants as count
@@ -18,13 +17,15 @@ use Rattle.c_token.specs.declared.token.Token.{Token}
 use Rattle.c_expr.specs.declared.fault.ParseFault.{ParseFault}
 use Rattle.c_expr.specs.declared.fault.ParseFault.TheVariants.{Unexpected, TooDeep}
 use Rattle.c_expr.specs.private.ParserRules.{Assign}
-use Rattle.c_expr.specs.Spelled.{sign, find}
+use Rattle.c_expr.specs.Spelled.{find}
 use Rattle.c_expr.specs.Next.{Outcome, ◌>>=◌, kind_of, place_of, refuse, take, expect, begins, is_base}
 use Rattle.c_expr.specs.private.ExpressionReading.{ruled, turns}
 use Rattle.c_decl.specs.GrammarWords.{word, marker_of}
-use Rattle.c_decl.specs.private.DeclarationReading.{is_next, name, vars}
+use Rattle.c_decl.specs.private.DeclarationReading.{is_next, next_or_end, name, vars}
 use Rattle.c_decl.specs.declared.opening.Opening.{Opening}
 use Rattle.c_decl.specs.declared.opening.Opening.TheVariants as o
+use Rattle.c_expr.specs.declared.punctuator.TheConstants.{PARENTHESIS_OPEN, PARENTHESIS_CLOSE, BRACE_OPEN, BRACE_CLOSE, COMMA, SEMICOLON}
+use Rattle.c_decl.specs.declared.reserved.TheConstants.{IF, ELSE, WHILE, DO, FOR, RETURN, BREAK, CONTINUE, BEGIN_PPR, END_PPR, WAIT, POST}
 
 -- Markers
 abbrev pub number_by : Kind → ℕ → List Token → Outcome ℕ
@@ -49,24 +50,24 @@ count_of r ts = count_by (kind_of ts) r ts
 
 abbrev pub close : {X : Type 0} → X → ℕ → List Token → Outcome X
 close x r ts = do
-  closed ← expect (sign (codes ")")) r ts
-  ended ← expect (sign (codes ";")) r closed.1
+  closed ← expect (k.Sign PARENTHESIS_CLOSE) r ts
+  ended ← expect (k.Sign SEMICOLON) r closed.1
   Ok (x, ended.1)
 
 abbrev pub numbered : ℕ → List Token → Outcome ℕ
 numbered r ts = do
   first ← take r ts
-  opened ← expect (sign (codes "(")) r first.1
+  opened ← expect (k.Sign PARENTHESIS_OPEN) r first.1
   n ← number r opened.1
   close n.0 r n.1
 
 abbrev pub post : ℕ → List Token → Outcome Marker
 post r ts = do
-  opened ← expect (sign (codes "(")) r ts
+  opened ← expect (k.Sign PARENTHESIS_OPEN) r ts
   channel ← number r opened.1
-  comma ← expect (sign (codes ",")) r channel.1
+  comma ← expect (k.Sign COMMA) r channel.1
   sent ← name r comma.1
-  comma ← expect (sign (codes ",")) r sent.1
+  comma ← expect (k.Sign COMMA) r sent.1
   c ← count_of r comma.1
   close (m.Post channel.0 sent.0.0 sent.0.1 c.0) r c.1
 
@@ -80,17 +81,17 @@ marker_by None true r ts = do
 marker_by None false r ts = refuse ts
 
 abbrev pub marker : ℕ → List Token → Outcome Marker
-marker r ts = marker_by (marker_of (kind_of ts)) (is_next (word (codes "Post")) ts) r ts
+marker r ts = marker_by (marker_of (kind_of ts)) (is_next (word POST.now) ts) r ts
 
 -- What a statement begins with; none begins an expression statement or no statement.
 abbrev pub openings : List (Kind × Opening)
 openings =
-    (sign (codes ";"), o.Empty) ∷ (sign (codes "{"), o.Block) ∷ (word (codes "if"), o.If)
-    ∷ (word (codes "while"), o.While) ∷ (word (codes "do"), o.Do) ∷ (word (codes "for"), o.For)
-    ∷ (word (codes "return"), o.Return) ∷ (word (codes "break"), o.Break)
-    ∷ (word (codes "continue"), o.Continue)
-    ∷ (word (codes "BeginPPR"), o.Marker) ∷ (word (codes "EndPPR"), o.Marker)
-    ∷ (word (codes "Wait"), o.Marker) ∷ (word (codes "Post"), o.Marker) ∷ []
+    (k.Sign SEMICOLON, o.Empty) ∷ (k.Sign BRACE_OPEN, o.Block) ∷ (word IF.now, o.If)
+    ∷ (word WHILE.now, o.While) ∷ (word DO.now, o.Do) ∷ (word FOR.now, o.For)
+    ∷ (word RETURN.now, o.Return) ∷ (word BREAK.now, o.Break)
+    ∷ (word CONTINUE.now, o.Continue)
+    ∷ (word BEGIN_PPR.now, o.Marker) ∷ (word END_PPR.now, o.Marker)
+    ∷ (word WAIT.now, o.Marker) ∷ (word POST.now, o.Marker) ∷ []
 
 abbrev pub opening_of : Kind → Option Opening
 opening_of = find openings
@@ -129,24 +130,24 @@ beginning_by false true r ts = do
   Ok (for_first.Vars found.0, found.1)
 beginning_by false false r ts = do
   x ← ruled Assign r ts
-  ended ← expect (sign (codes ";")) r x.1
+  ended ← expect (k.Sign SEMICOLON) r x.1
   Ok (for_first.Expr x.0, ended.1)
 
 abbrev pub beginning : ℕ → List Token → Outcome First
-beginning r ts = beginning_by (is_next (sign (codes ";")) ts) (is_base (kind_of ts)) r ts
+beginning r ts = beginning_by (is_next (k.Sign SEMICOLON) ts) (is_base (kind_of ts)) r ts
 
 -- An expression in parentheses
 abbrev pub test : ℕ → List Token → Outcome Expr
 test r ts = do
-  opened ← expect (sign (codes "(")) r ts
+  opened ← expect (k.Sign PARENTHESIS_OPEN) r ts
   x ← ruled Assign r opened.1
-  closed ← expect (sign (codes ")")) r x.1
+  closed ← expect (k.Sign PARENTHESIS_CLOSE) r x.1
   Ok (x.0, closed.1)
 
 abbrev pub expression_at : Place → ℕ → List Token → Outcome Stmt
 expression_at place r ts = do
   x ← ruled Assign r ts
-  ended ← expect (sign (codes ";")) r x.1
+  ended ← expect (k.Sign SEMICOLON) r x.1
   Ok (stmt.Expr x.0 place, ended.1)
 
 abbrev pub declaration_at : Place → ℕ → List Token → Outcome Stmt
@@ -159,6 +160,15 @@ marker_at place r ts = do
   found ← marker r ts
   Ok (stmt.Marker found.0 place, found.1)
 
+abbrev pub expr_stmt : ℕ → List Token → Outcome Stmt
+expr_stmt r ts = expression_at (place_of ts) r ts
+
+abbrev pub vars_stmt : ℕ → List Token → Outcome Stmt
+vars_stmt r ts = declaration_at (place_of ts) r ts
+
+abbrev pub marker_stmt : ℕ → List Token → Outcome Stmt
+marker_stmt r ts = marker_at (place_of ts) r ts
+
 abbrev pub empty : ℕ → List Token → Outcome Stmt
 empty r ts = do
   first ← take r ts
@@ -167,19 +177,19 @@ empty r ts = do
 abbrev pub return_stmt : ℕ → List Token → Outcome Stmt
 return_stmt r ts = do
   first ← take r ts
-  x ← optional (sign (codes ";")) r first.1
+  x ← optional (k.Sign SEMICOLON) r first.1
   Ok (stmt.Return x.0 first.0.place, x.1)
 
 abbrev pub break_stmt : ℕ → List Token → Outcome Stmt
 break_stmt r ts = do
   first ← take r ts
-  ended ← expect (sign (codes ";")) r first.1
+  ended ← expect (k.Sign SEMICOLON) r first.1
   Ok (stmt.Break first.0.place, ended.1)
 
 abbrev pub continue_stmt : ℕ → List Token → Outcome Stmt
 continue_stmt r ts = do
   first ← take r ts
-  ended ← expect (sign (codes ";")) r first.1
+  ended ← expect (k.Sign SEMICOLON) r first.1
   Ok (stmt.Continue first.0.place, ended.1)
 
 -- Each form, by the reading of the statements in it
@@ -192,7 +202,7 @@ module _ (again : ℕ → List Token → Outcome Stmt) where
   else_part_by false x s place r ts = Ok (stmt.If x s stmt.NoElse place, ts)
 
   abbrev pub else_part : Expr → Stmt → Place → ℕ → List Token → Outcome Stmt
-  else_part x s place r ts = else_part_by (is_next (word (codes "else")) ts) x s place r ts
+  else_part x s place r ts = else_part_by (is_next (word ELSE.now) ts) x s place r ts
 
   abbrev pub if_stmt : ℕ → List Token → Outcome Stmt
   if_stmt r ts = do
@@ -212,38 +222,33 @@ module _ (again : ℕ → List Token → Outcome Stmt) where
   do_stmt r ts = do
     first ← take r ts
     s ← again r first.1
-    again_word ← expect (word (codes "while")) r s.1
+    again_word ← expect (word WHILE.now) r s.1
     x ← test r again_word.1
-    ended ← expect (sign (codes ";")) r x.1
+    ended ← expect (k.Sign SEMICOLON) r x.1
     Ok (stmt.Do s.0 x.0 first.0.place, ended.1)
 
   abbrev pub for_stmt : ℕ → List Token → Outcome Stmt
   for_stmt r ts = do
     first ← take r ts
-    opened ← expect (sign (codes "(")) r first.1
+    opened ← expect (k.Sign PARENTHESIS_OPEN) r first.1
     f ← beginning r opened.1
-    x ← optional (sign (codes ";")) r f.1
-    y ← optional (sign (codes ")")) r x.1
+    x ← optional (k.Sign SEMICOLON) r f.1
+    y ← optional (k.Sign PARENTHESIS_CLOSE) r x.1
     s ← again r y.1
     Ok (stmt.For f.0 x.0 y.0 s.0 first.0.place, s.1)
 
   abbrev pub part_by : Bool → ℕ → List Token → Outcome Stmt
-  part_by true r ts = declaration_at (place_of ts) r ts
+  part_by true r ts = vars_stmt r ts
   part_by false r ts = again r ts
 
   abbrev pub part : ℕ → List Token → Outcome Stmt
   part r ts = part_by (is_base (kind_of ts)) r ts
 
   abbrev pub body_turn_by : Bool → ℕ → List Stmt → List Token → Outcome (List Stmt ⊎ List Stmt)
-  body_turn_by true r found ts = do
-    closed ← take r ts
-    Ok (inr found, closed.1)
-  body_turn_by false r found ts = do
-    s ← part r ts
-    Ok (inl (found ++ s.0 ∷ []), s.1)
+  body_turn_by = next_or_end part
 
   abbrev pub body_turn : ℕ → List Stmt → List Token → Outcome (List Stmt ⊎ List Stmt)
-  body_turn r found ts = body_turn_by (is_next (sign (codes "}")) ts) r found ts
+  body_turn r found ts = body_turn_by (is_next (k.Sign BRACE_CLOSE) ts) r found ts
 
   abbrev pub body : ℕ → List Token → Outcome (List Stmt)
   body r ts = turns (body_turn r) (length ts) [] ts
@@ -264,8 +269,8 @@ module _ (again : ℕ → List Token → Outcome Stmt) where
   opened_by (Some o.Return) r ts = return_stmt r ts
   opened_by (Some o.Break) r ts = break_stmt r ts
   opened_by (Some o.Continue) r ts = continue_stmt r ts
-  opened_by (Some o.Marker) r ts = marker_at (place_of ts) r ts
-  opened_by None r ts = expression_at (place_of ts) r ts
+  opened_by (Some o.Marker) r ts = marker_stmt r ts
+  opened_by None r ts = expr_stmt r ts
 
   unfoldable pub opened : ℕ → List Token → Outcome Stmt
   opened r ts = opened_by (opening_of (kind_of ts)) r ts

@@ -1,5 +1,5 @@
 -- How the parser reads, as a function on lists. It is a device for proofs: what is read rightly is said by `Grammar`.
-use Rattle.std.specs.Prelude.{ℕ, zero, suc, ◌==◌, List, [], ◌∷◌, ◌++◌, length, Bool, true, false, if◌then◌else◌, codes, Option, Some, None, Ok, Err, ◌⊎◌}
+use Rattle.std.specs.Prelude.{ℕ, zero, suc, ◌==◌, List, [], ◌∷◌, ◌++◌, length, Bool, true, false, if◌then◌else◌, Option, Some, None, Ok, Err, ◌⊎◌}
 use mathlib.Core.Logic.{inl, inr}
 use Rattle.c_tree.specs.declared.operator.Binary.{Binary}
 use Rattle.c_tree.specs.declared.operator.Step.{Step}
@@ -15,8 +15,9 @@ use Rattle.c_token.specs.declared.token.Kind.TheVariants as k
 use Rattle.c_token.specs.declared.token.Token.{Token}
 use Rattle.c_expr.specs.declared.rule.Rule.{Rule}
 use Rattle.c_expr.specs.declared.rule.Rule.TheVariants.{Assign, Cond, Unary as UnaryRule}
-use Rattle.c_expr.specs.Spelled.{sign, same, assign_op, binary_op, rank, lor, unary_op, first_step, last_step, builtin}
+use Rattle.c_expr.specs.Spelled.{same, assign_op, binary_op, rank, lor, unary_op, first_step, last_step, builtin}
 use Rattle.c_expr.specs.Next.{Outcome, ◌>>=◌, kind_of, refuse, take, expect, is_eof, opens, closes, fault_at_start, base, is_base}
+use Rattle.c_expr.specs.declared.punctuator.TheConstants.{PARENTHESIS_OPEN, PARENTHESIS_CLOSE, BRACKET_OPEN, BRACKET_CLOSE, COMMA, QUESTION, COLON}
 
 abbrev pub of_rank : ℕ → Option Binary → Option Binary
 of_rank rk (Some o) = if rank o == rk then Some o else None
@@ -50,6 +51,15 @@ abbrev pub turns : {A B : Type 0} → (A → List Token → Outcome (A ⊎ B)) �
 turns step zero x ts = refuse ts
 turns step (suc n) x ts = step x ts >>= turn (turns step n)
 
+-- After an element of a list in parentheses: a comma, or the parenthesis that closes it
+abbrev pub after_element : {X : Type 0} → Bool → ℕ → X → List Token → Outcome (X ⊎ X)
+after_element true r found ts = do
+  comma ← take r ts
+  Ok (inl found, comma.1)
+after_element false r found ts = do
+  closed ← expect (k.Sign PARENTHESIS_CLOSE) r ts
+  Ok (inr found, closed.1)
+
 -- Each rule, by the rules that it opens, which take the room and the tokens.
 module _ (again : Rule → ℕ → List Token → Outcome Expr) where
   abbrev pub assign_by : Option (Option Binary) → ℕ → Expr → List Token → Outcome Expr
@@ -75,14 +85,14 @@ module _ (again : Rule → ℕ → List Token → Outcome Expr) where
   conditional_by true r x ts = do
     mark ← take r ts
     y ← again Assign r mark.1
-    colon ← expect (sign (codes ":")) r y.1
+    colon ← expect (k.Sign COLON) r y.1
     z ← again Cond r colon.1
     Ok (expr.Conditional x y.0 z.0 mark.0.place, z.1)
 
   unfoldable pub cond_inside : ℕ → List Token → Outcome Expr
   cond_inside r ts = do
     x ← binary lor r ts
-    conditional_by (same (kind_of x.1) (sign (codes "?"))) r x.0 x.1
+    conditional_by (same (kind_of x.1) (k.Sign QUESTION)) r x.0 x.1
 
   -- One suffix, and then `onward`
   abbrev pub suffix_step : (Expr → List Token → Outcome Expr) → Bool → Option Step → ℕ → Expr
@@ -90,7 +100,7 @@ module _ (again : Rule → ℕ → List Token → Outcome Expr) where
   suffix_step onward true how r x ts = do
     opened ← take r ts
     y ← again Assign r opened.1
-    closed ← expect (sign (codes "]")) r y.1
+    closed ← expect (k.Sign BRACKET_CLOSE) r y.1
     onward (expr.Index x y.0 opened.0.place) closed.1
   suffix_step onward false (Some how) r x ts = do
     mark ← take r ts
@@ -99,24 +109,16 @@ module _ (again : Rule → ℕ → List Token → Outcome Expr) where
 
   abbrev pub suffixes_from : ℕ → Expr → List Token → Outcome Expr
   suffixes_from zero x ts =
-      suffix_step (λ y us. Ok (y, us)) (same (kind_of ts) (sign (codes "[")))
+      suffix_step (λ y us. Ok (y, us)) (same (kind_of ts) (k.Sign BRACKET_OPEN))
       (last_step (kind_of ts)) zero x ts
   suffixes_from (suc r) x ts =
-      suffix_step (suffixes_from r) (same (kind_of ts) (sign (codes "["))) (last_step (kind_of ts))
+      suffix_step (suffixes_from r) (same (kind_of ts) (k.Sign BRACKET_OPEN)) (last_step (kind_of ts))
       (suc r) x ts
-
-  abbrev pub after_argument : Bool → ℕ → List Expr → List Token → Outcome (List Expr ⊎ List Expr)
-  after_argument true r found ts = do
-    comma ← take r ts
-    Ok (inl found, comma.1)
-  after_argument false r found ts = do
-    closed ← expect (sign (codes ")")) r ts
-    Ok (inr found, closed.1)
 
   abbrev pub argument : ℕ → List Expr → List Token → Outcome (List Expr ⊎ List Expr)
   argument r found ts = do
     x ← again Assign r ts
-    after_argument (same (kind_of x.1) (sign (codes ","))) r (found ++ x.0 ∷ []) x.1
+    after_element (same (kind_of x.1) (k.Sign COMMA)) r (found ++ x.0 ∷ []) x.1
 
   -- through the closing parenthesis
   abbrev pub arguments_by : Bool → ℕ → List Token → Outcome (List Expr)
@@ -125,10 +127,13 @@ module _ (again : Rule → ℕ → List Token → Outcome Expr) where
     Ok ([], closed.1)
   arguments_by false r ts = turns (argument r) (length ts) [] ts
 
-  -- behind the opening parenthesis
+  abbrev pub arguments : ℕ → List Token → Outcome (List Expr)
+  arguments r ts = arguments_by (closes (kind_of ts)) r ts
+
+  -- after the opening parenthesis
   abbrev pub call : Callee → Place → ℕ → List Token → Outcome Expr
   call callee place r ts = do
-    found ← arguments_by (closes (kind_of ts)) r ts
+    found ← arguments r ts
     Ok (expr.Call callee (exprs_list found.0) place, found.1)
 
   abbrev pub after_name : Bool → List ℕ → Place → ℕ → List Token → Outcome Expr
@@ -137,20 +142,26 @@ module _ (again : Rule → ℕ → List Token → Outcome Expr) where
     call (c.Name n) place r opened.1
   after_name false n place r ts = Ok (expr.Name n place, ts)
 
+  abbrev pub name_or_call : List ℕ → Place → ℕ → List Token → Outcome Expr
+  name_or_call n place r ts = after_name (opens (kind_of ts)) n place r ts
+
   abbrev pub reserved : Bool → Option Callee → ℕ → List Token → Outcome Expr
   reserved true callee r ts = do
     first ← take r ts
     Ok (expr.Eof first.0.place, first.1)
   reserved false (Some callee) r ts = do
     first ← take r ts
-    opened ← expect (sign (codes "(")) r first.1
+    opened ← expect (k.Sign PARENTHESIS_OPEN) r first.1
     call callee first.0.place r opened.1
   reserved false None r ts = refuse ts
+
+  abbrev pub by_word : ℕ → List Token → Outcome Expr
+  by_word r ts = reserved (is_eof (kind_of ts)) (builtin (kind_of ts)) r ts
 
   abbrev pub primary_by : Kind → Bool → Option Callee → ℕ → List Token → Outcome Expr
   primary_by (k.Name n) eof callee r ts = do
     first ← take r ts
-    after_name (opens (kind_of first.1)) n first.0.place r first.1
+    name_or_call n first.0.place r first.1
   primary_by (k.Number ty v) eof callee r ts = do
     first ← take r ts
     Ok (expr.Number (ty_of ty) v first.0.place, first.1)
@@ -162,17 +173,20 @@ module _ (again : Rule → ℕ → List Token → Outcome Expr) where
   abbrev pub primary : ℕ → List Token → Outcome Expr
   primary r ts = primary_by (kind_of ts) (is_eof (kind_of ts)) (builtin (kind_of ts)) r ts
 
-  -- behind `(`: a cast, at that place, or an expression in parentheses
+  -- after `(`: a cast, at that place, or an expression in parentheses
   abbrev pub after_open : Bool → Place → ℕ → List Token → Outcome Expr
   after_open true place r ts = do
     to ← base r ts
-    closed ← expect (sign (codes ")")) r to.1
+    closed ← expect (k.Sign PARENTHESIS_CLOSE) r to.1
     x ← again UnaryRule r closed.1
     Ok (expr.Cast to.0 x.0 place, x.1)
   after_open false place r ts = do
     x ← again Assign r ts
-    closed ← expect (sign (codes ")")) r x.1
+    closed ← expect (k.Sign PARENTHESIS_CLOSE) r x.1
     suffixes_from r x.0 closed.1
+
+  abbrev pub cast_or_group : Place → ℕ → List Token → Outcome Expr
+  cast_or_group place r ts = after_open (is_base (kind_of ts)) place r ts
 
   abbrev pub unary_by : Option Unary → Option Step → Bool → ℕ → List Token → Outcome Expr
   unary_by (Some o) how opened r ts = do
@@ -185,7 +199,7 @@ module _ (again : Rule → ℕ → List Token → Outcome Expr) where
     Ok (expr.Step how x.0 mark.0.place, x.1)
   unary_by None None true r ts = do
     opened ← take r ts
-    after_open (is_base (kind_of opened.1)) opened.0.place r opened.1
+    cast_or_group opened.0.place r opened.1
   unary_by None None false r ts = do
     x ← primary r ts
     suffixes_from r x.0 x.1

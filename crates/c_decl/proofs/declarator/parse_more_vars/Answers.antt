@@ -2,31 +2,36 @@ use Rattle.std.proofs.Common.{rules, arith, map}
 use Rattle.std.proofs.lemmas.Grind.{common_steps}
 use Rattle.c_tree.specs.View as view
 use Rattle.c_expr.specs.private.ExpressionReading.{turns}
-use Rattle.c_decl.specs.private.DeclarationReading as read
 use Rattle.c_expr.proofs.Opens.{one_more}
+use Rattle.c_decl.specs.private.DeclarationReading as read
 use Rattle.c_decl.proofs.declarator.parse_more_vars.Goals as goal
 
-pub returns-in_err-after : goal.returns-in_err-after
-returns-in_err-after c =
-    let e = one_more (λ n. turns (read.declarator_turn (view.ty_of c.args.base.now) c.args.room) n (map view.var_of c.loop.found.items) c.loop.rest.tokens.now) _ c.loop.counter c.loop-test.true c.loop.invariant in
+pub returns-in_err-take : goal.returns-in_err-take
+returns-in_err-take c =
+    let e = one_more (λ n. turns (read.declarator_turn (view.ty_of c.args.base.now) c.args.cursor.now.room) n (map view.var_of c.loop.found.items) c.loop.cursor.tokens.now) _ c.loop.counter c.loop-test.true c.loop.invariant.read in
+    let r = c.loop.invariant.room in
     first_of (search rules, grind (arith, common_steps))
 
 pub returns-in_err-next : goal.returns-in_err-next
 returns-in_err-next c =
-    let e = one_more (λ n. turns (read.declarator_turn (view.ty_of c.args.base.now) c.args.room) n (map view.var_of c.loop.found.items) c.loop.rest.tokens.now) _ c.loop.counter c.loop-test.true c.loop.invariant in
+    let e = one_more (λ n. turns (read.declarator_turn (view.ty_of c.args.base.now) c.args.cursor.now.room) n (map view.var_of c.loop.found.items) c.loop.cursor.tokens.now) _ c.loop.counter c.loop-test.true c.loop.invariant.read in
+    let r = c.loop.invariant.room in
     first_of (search rules, grind (arith, common_steps))
 
-pub returns-in_err-after-2 : goal.returns-in_err-after-2
-returns-in_err-after-2 c =
-    let e = one_more (λ n. turns (read.declarator_turn (view.ty_of c.args.base.now) c.args.room) n (map view.var_of c.loop.found.items) c.loop.rest.tokens.now) _ c.loop.counter c.loop-test.true c.loop.invariant in
+pub returns-in_err-expect : goal.returns-in_err-expect
+returns-in_err-expect c =
+    let e = one_more (λ n. turns (read.declarator_turn (view.ty_of c.args.base.now) c.args.cursor.now.room) n (map view.var_of c.loop.found.items) c.loop.cursor.tokens.now) _ c.loop.counter c.loop-test.true c.loop.invariant.read in
+    let r = c.loop.invariant.room in
     first_of (search rules, grind (arith, common_steps))
 
 pub returns-else-is_sign : goal.returns-else-is_sign
 returns-else-is_sign c =
-    let e = one_more (λ n. turns (read.declarator_turn (view.ty_of c.args.base.now) c.args.room) n (map view.var_of c.loop.found.items) c.loop.rest.tokens.now) _ c.loop.counter c.loop-test.true c.loop.invariant in
+    let e = one_more (λ n. turns (read.declarator_turn (view.ty_of c.args.base.now) c.args.cursor.now.room) n (map view.var_of c.loop.found.items) c.loop.cursor.tokens.now) _ c.loop.counter c.loop-test.true c.loop.invariant.read in
+    let r = c.loop.invariant.room in
     first_of (search rules, grind (arith, common_steps))
 
 pub loop-preserved : goal.loop-preserved
 loop-preserved c =
-    let e = one_more (λ n. turns (read.declarator_turn (view.ty_of c.args.base.now) c.args.room) n (map view.var_of c.loop.found.items) c.loop.rest.tokens.now) _ c.loop.counter c.loop-test.true c.loop.invariant in
-    first_of (search rules, grind (arith, common_steps))
+    let e = one_more (λ n. turns (read.declarator_turn (view.ty_of c.args.base.now) c.args.cursor.now.room) n (map view.var_of c.loop.found.items) c.loop.cursor.tokens.now) _ c.loop.counter c.loop-test.true c.loop.invariant.read in
+    let r = c.loop.invariant.room in
+    record { room = first_of (search rules, grind (arith, common_steps)); read = first_of (search rules, grind (arith, common_steps)) }

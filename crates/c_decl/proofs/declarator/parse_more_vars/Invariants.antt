@@ -5,5 +5,9 @@ use Rattle.c_decl.specs.private.DeclarationReading as read
 use Rattle.c_decl.proofs.declarator.parse_more_vars.Given as goal
 
 abbrev pub invariant-loop : goal.invariant-loop
-invariant-loop l =
-    read.more_declarators (view.ty_of l.base) (view.var_of l.fn.first) l.room l.whole.tokens.now ≡ turns (read.declarator_turn (view.ty_of l.base) l.room) (l.end - l.counter) (map view.var_of l.found.items) l.rest.tokens.now
+invariant-loop l = record {
+  room : l.cursor.room ≡ l.fn.cursor.room;
+  read : read.more_declarators (view.ty_of l.base) (view.var_of l.fn.first) l.fn.cursor.room l.fn.cursor.tokens.now
+      ≡ turns (read.declarator_turn (view.ty_of l.base) l.fn.cursor.room) (l.end - l.counter) (map view.var_of l.found.items)
+      l.cursor.tokens.now;
+}

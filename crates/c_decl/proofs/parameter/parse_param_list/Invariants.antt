@@ -5,4 +5,9 @@ use Rattle.c_decl.specs.private.DeclarationReading as read
 use Rattle.c_decl.proofs.parameter.parse_param_list.Given as goal
 
 abbrev pub invariant-loop : goal.invariant-loop
-invariant-loop l = read.parameter_list l.room l.whole.tokens.now ≡ turns (read.parameter_turn l.room) (l.end - l.counter) (map view.param_of l.found.items) l.rest.tokens.now
+invariant-loop l = record {
+  room : l.cursor.room ≡ l.fn.cursor.room;
+  read : read.parameter_list l.fn.cursor.room l.fn.cursor.tokens.now
+      ≡ turns (read.parameter_turn l.fn.cursor.room) (l.end - l.counter) (map view.param_of l.found.items)
+      l.cursor.tokens.now;
+}

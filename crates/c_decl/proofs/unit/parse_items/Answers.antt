@@ -6,22 +6,26 @@ use Rattle.c_expr.proofs.Opens.{one_more}
 use Rattle.c_decl.specs.private.UnitReading as read
 use Rattle.c_decl.proofs.unit.parse_items.Goals as goal
 
-pub returns-in_err-after : goal.returns-in_err-after
-returns-in_err-after c =
-    let e = one_more (λ n. turns (read.unit_turn c.args.room) n (map view.item_of c.loop.found.items) c.loop.rest.tokens.now) _ c.loop.counter c.loop-test.true c.loop.invariant in
+pub returns-in_err-take : goal.returns-in_err-take
+returns-in_err-take c =
+    let e = one_more (λ n. turns (read.unit_turn c.args.cursor.now.room) n (map view.item_of c.loop.found.items) c.loop.cursor.tokens.now) _ c.loop.counter c.loop-test.true c.loop.invariant.read in
+    let r = c.loop.invariant.room in
     first_of (search rules, grind (arith, common_steps))
 
-pub returns-then-is_end : goal.returns-then-is_end
-returns-then-is_end c =
-    let e = one_more (λ n. turns (read.unit_turn c.args.room) n (map view.item_of c.loop.found.items) c.loop.rest.tokens.now) _ c.loop.counter c.loop-test.true c.loop.invariant in
+pub returns-then-at_end : goal.returns-then-at_end
+returns-then-at_end c =
+    let e = one_more (λ n. turns (read.unit_turn c.args.cursor.now.room) n (map view.item_of c.loop.found.items) c.loop.cursor.tokens.now) _ c.loop.counter c.loop-test.true c.loop.invariant.read in
+    let r = c.loop.invariant.room in
     first_of (search rules, grind (arith, common_steps))
 
 pub returns-in_err-one : goal.returns-in_err-one
 returns-in_err-one c =
-    let e = one_more (λ n. turns (read.unit_turn c.args.room) n (map view.item_of c.loop.found.items) c.loop.rest.tokens.now) _ c.loop.counter c.loop-test.true c.loop.invariant in
+    let e = one_more (λ n. turns (read.unit_turn c.args.cursor.now.room) n (map view.item_of c.loop.found.items) c.loop.cursor.tokens.now) _ c.loop.counter c.loop-test.true c.loop.invariant.read in
+    let r = c.loop.invariant.room in
     first_of (search rules, grind (arith, common_steps))
 
 pub loop-preserved : goal.loop-preserved
 loop-preserved c =
-    let e = one_more (λ n. turns (read.unit_turn c.args.room) n (map view.item_of c.loop.found.items) c.loop.rest.tokens.now) _ c.loop.counter c.loop-test.true c.loop.invariant in
-    first_of (search rules, grind (arith, common_steps))
+    let e = one_more (λ n. turns (read.unit_turn c.args.cursor.now.room) n (map view.item_of c.loop.found.items) c.loop.cursor.tokens.now) _ c.loop.counter c.loop-test.true c.loop.invariant.read in
+    let r = c.loop.invariant.room in
+    record { room = first_of (search rules, grind (arith, common_steps)); read = first_of (search rules, grind (arith, common_steps)) }

@@ -5,4 +5,9 @@ use Rattle.c_decl.specs.private.UnitReading as read
 use Rattle.c_decl.proofs.unit.parse_items.Given as goal
 
 abbrev pub invariant-loop : goal.invariant-loop
-invariant-loop l = read.unit l.room l.whole.tokens.now ≡ turns (read.unit_turn l.room) (l.end - l.counter) (map view.item_of l.found.items) l.rest.tokens.now
+invariant-loop l = record {
+  room : l.cursor.room ≡ l.fn.cursor.room;
+  read : read.unit l.fn.cursor.room l.fn.cursor.tokens.now
+      ≡ turns (read.unit_turn l.fn.cursor.room) (l.end - l.counter) (map view.item_of l.found.items)
+      l.cursor.tokens.now;
+}

@@ -1,4 +1,4 @@
--- What is left of a text, behind what was read.
+-- What is left of a text, after what was read.
 use Rattle.std.proofs.Common.{◌≡◌, ℕ, zero, suc, List, [], ◌∷◌, ◌++◌, length, drop, Bool, true, false, refl, ap, ◌∙◌, arith}
 use Rattle.c_tree.specs.declared.place.Place.{Place}
 use Rattle.c_token.specs.declared.token.Kind.{Kind}
@@ -6,8 +6,7 @@ use Rattle.c_token.specs.declared.token.Kind.TheVariants as k
 use Rattle.c_token.specs.declared.token.Token.{Token}
 use Rattle.c_expr.specs.Parsing.{IsEnded}
 use Rattle.c_expr.proofs.ExactExpressions.{from, from_is}
-use Rattle.c_decl.specs.private.UnitReading.{is_end}
-use Rattle.c_decl.specs.private.EndedTokens.{ends}
+use Rattle.c_expr.specs.Next.{is_end, ends}
 use Rattle.std.specs.Prelude.{◌==◌}
 use Rattle.std.proofs.lemmas.Bool.Decides.{nat_tests}
 
