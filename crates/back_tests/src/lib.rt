@@ -2,12 +2,4 @@
 #![tactic(auto)]
 
 #[cfg(test)]
-mod accepted;
-#[cfg(test)]
-mod code;
-#[cfg(test)]
-mod meanings;
-#[cfg(test)]
-mod memory;
-#[cfg(test)]
-mod resolved;
+mod tests;

@@ -12,7 +12,7 @@ use Rattle.low_link.specs.Front as front_of
 use Rattle.low_link.specs.Front.{Refuses, IsAccepted}
 use Rattle.bop_top.specs.declared.outcome.Outcome.{Outcome}
 use Rattle.bop_top.specs.declared.outcome.Outcome.TheVariants as outcome
-use Rattle.bop_top.specs.declared.top.TheConstants.{TEXT_BYTES}
+use Rattle.c_token.specs.declared.limits.TheConstants.{TEXT_BYTES}
 use Rattle.bop_top.specs.Headline.{SeqSays, SeqTransfers, CheckSays, CheckTransfers, MeanSays, MeanTransfers, IsFine, IsTooLong, IsUnloaded, count_told, refused_outcome}
 
 -- fewer bytes than were asked for are the whole file

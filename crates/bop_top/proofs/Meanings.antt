@@ -3,7 +3,7 @@ use Rattle.std.proofs.Common.{◌≡◌, ◌≤◌, ℕ, List, [], length, Optio
 use Rattle.c_semantics.specs.Meaning.{Meaning}
 use Rattle.bop_top.specs.declared.outcome.Outcome.{Outcome}
 use Rattle.bop_top.specs.declared.outcome.Outcome.TheVariants as outcome
-use Rattle.bop_top.specs.declared.top.TheConstants.{TEXT_BYTES}
+use Rattle.c_token.specs.declared.limits.TheConstants.{TEXT_BYTES}
 use Rattle.bop_top.specs.Headline.{Means, Meant, MeanSays, MeanTransfers, Puts, IsInput, IsFine, IsUnread, IsUnmeant, count_told}
 
 module _ (steps : ℕ) (text taken : List ℕ) (fits : length text ≤ TEXT_BYTES) where

@@ -25,7 +25,8 @@ use Rattle.bop_top.specs.declared.status.End.TheVariants as end
 use Rattle.bop_top.specs.declared.status.Status.{Status}
 use Rattle.bop_top.specs.declared.status.Status.TheVariants.{BadWords}
 use Rattle.bop_top.specs.declared.input.TheConstants.{INPUT_BYTES}
-use Rattle.bop_top.specs.declared.top.TheConstants.{BUDGET, TEXT_BYTES}
+use Rattle.bop_top.specs.declared.top.TheConstants.{BUDGET}
+use Rattle.c_token.specs.declared.limits.TheConstants.{TEXT_BYTES}
 use Rattle.bop_top.specs.Report.{Reported}
 use Rattle.bop_top.specs.CommandWords.{Request, Seq, Check, Mean, IsRequest, AsksNothing, name_of}
 use Rattle.bop_top.specs.Statuses.{row_of, status_of}
@@ -225,6 +226,23 @@ pub record Ends : Type 0 where
   pub input : Option (List ℕ)
   pub output : Option (List ℕ)
   pub faults : Faults
+
+-- by what a shelf, an input and an output tell of themselves
+module _ {H S K : Type 0} (tells : H → Bool) (file : H → List ℕ → Option (List ℕ))
+    (shelf_faults : H → ℕ) (left : S → Option (List ℕ)) (input_faults : S → ℕ)
+    (content : K → Option (List ℕ)) (output_faults : K → ℕ) where
+  abbrev pub ends_of : H → S → K → Ends
+  ends_of shelf input output = record {
+    tells = tells shelf;
+    file = file shelf;
+    input = left input;
+    output = content output;
+    faults = record {
+      shelf = shelf_faults shelf;
+      input = input_faults input;
+      output = output_faults output;
+    };
+  }
 
 -- the number of bytes that is reported of a meaning with this outcome, which has written so many
 abbrev pub count_told : Outcome → ℕ → Option ℕ

@@ -4,10 +4,8 @@
 mod ending;
 mod input;
 mod laws;
-mod machine;
 mod meaning;
 mod outcome;
-mod piece;
 mod report;
 mod run;
 mod status;

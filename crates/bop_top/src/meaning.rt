@@ -7,7 +7,7 @@ ghost use Rattle.bop_ends.specs.Ends.{HasCause};
 ghost use Rattle.c_meaning.specs.Answer.{meaning_of};
 ghost use Rattle.c_semantics.specs.Outcome.{output_of};
 ghost use Rattle.bop_top.specs.Headline.{Means, IsInput, IsUnmeant, HasPut, HasMeant, Counts, meaning_outcome};
-ghost use Rattle.bop_top.specs.declared.top.TheConstants.{TEXT_BYTES};
+ghost use Rattle.c_token.specs.declared.limits.TheConstants.{TEXT_BYTES};
 
 use crate::ending::Ending;
 use crate::input::read_input;

@@ -3,28 +3,26 @@
 ghost use Rattle.std.specs.Prelude.{◌≡◌, ◌↔◌, ◌≤◌, [], length, IfOk, OnOk, IfErr, List, ℕ, ℤ, Some, map, string_bytes, IsTrue};
 ghost use Rattle.std.specs.Io.KnownBytes.{Appends};
 ghost use Rattle.bop_top.specs.CommandWords.{AsksMean, AsksNothing, IsMean, request_of};
-ghost use Rattle.bop_top.specs.Headline.{Course, Ended, HasMeant, SeqSays, SeqTransfers, CheckSays, CheckTransfers, Counts, IsUnloaded};
+ghost use Rattle.bop_top.specs.Headline.{Course, Ended, ends_of, HasMeant, SeqSays, SeqTransfers, CheckSays, CheckTransfers, Counts, IsUnloaded};
 ghost use Rattle.bop_top.specs.private.Untouched.{Untouched};
 ghost use Rattle.bop_top.specs.declared.status.Status.TheVariants.{BadWords};
 
 use crate::Status;
 use crate::ending::Ending;
-use crate::machine::Machine;
 use crate::meaning::mean_text;
 use crate::outcome::{Outcome, outcome_of};
 use crate::report::report_status;
 use crate::run::run;
 use crate::words::{Command, command_of};
 use bop_ends::{LoadFault, Shelf, Sink, Source};
+use c_token::TEXT_BYTES;
 use low_link::{Refused, compile, front};
-use rv_code::Stop;
+use rv_code::{Bytes, Stop};
+use rv_step::{Job, State};
 use std::alloc::Global;
 
 /// How many steps a run takes at most, where the words don't say.
 pub const BUDGET: u64 = 1_000_000_000;
-
-/// How many bytes a text has at most.
-pub const TEXT_BYTES: usize = 1_048_576;
 
 /// How many bytes of a program's file are loaded at most: one more, so that a longer text is told.
 pub const MOST_BYTES: usize = 1_048_577;
@@ -45,28 +43,10 @@ pub fn bop_main<S: Source, K: Sink, R: Sink, H: Shelf>(
     report: &mut R,
 ) -> (Status, K)
     ensures course { Course (map string_bytes words.now)
-        (record {
-          tells = H.tells shelf.old;
-          file = H.file shelf.old;
-          input = S.left input.old;
-          output = K.content output;
-          faults = record {
-            shelf = H.faults shelf.old;
-            input = S.faults input.old;
-            output = K.faults output;
-          };
-        })
-        (record {
-          tells = H.tells shelf.new;
-          file = H.file shelf.new;
-          input = S.left input.new;
-          output = K.content result.1;
-          faults = record {
-            shelf = H.faults shelf.new;
-            input = S.faults input.new;
-            output = K.faults result.1;
-          };
-        })
+        (ends_of H.tells H.file H.faults S.left S.faults K.content K.faults
+        shelf.old input.old output)
+        (ends_of H.tells H.file H.faults S.left S.faults K.content K.faults
+        shelf.new input.new result.1)
         (record { content = R.content report.old; faults = R.faults report.old })
         (record { content = R.content report.new; faults = R.faults report.new })
         result.0 }
@@ -93,28 +73,10 @@ fn execute<S: Source, K: Sink, H: Shelf>(
     output: &mut K,
 ) -> Ending
     ensures ended { Ended (request_of command.entry)
-        (record {
-          tells = H.tells shelf.old;
-          file = H.file shelf.old;
-          input = S.left input.old;
-          output = K.content output.old;
-          faults = record {
-            shelf = H.faults shelf.old;
-            input = S.faults input.old;
-            output = K.faults output.old;
-          };
-        })
-        (record {
-          tells = H.tells shelf.new;
-          file = H.file shelf.new;
-          input = S.left input.new;
-          output = K.content output.new;
-          faults = record {
-            shelf = H.faults shelf.new;
-            input = S.faults input.new;
-            output = K.faults output.new;
-          };
-        })
+        (ends_of H.tells H.file H.faults S.left S.faults K.content K.faults
+        shelf.old input.old output.old)
+        (ends_of H.tells H.file H.faults S.left S.faults K.content K.faults
+        shelf.new input.new output.new)
         result.outcome result.bytes }
     ensures unread { (IsMean (request_of command.entry) → ⊥) → input.new ≡ input.old }
     ensures untouched { Untouched H.tells H.file shelf.old shelf.new }
@@ -237,23 +199,28 @@ fn seq_text<K: Sink>(alloc: Global, text: &[u8], output: &mut K) -> Outcome
         → Counts result (record { shelf = h; input = i; output = K.faults output.old })
         (record { shelf = h; input = i; output = K.faults output.new }) }
 {
-    match compile(alloc, text) {
-        Ok(program) => match run(&program, &[], BUDGET, output) {
-            Ok(machine) => Outcome::Done(exit_of(&machine)),
-            Err(_) => Outcome::WriteFault,
-        },
-        Err(Refused::NotYetBuilt) => Outcome::NotYetBuilt,
-        Err(Refused::OutOfMemory) => Outcome::OutOfMemory,
+    let program = match compile(alloc, text) {
+        Ok(program) => program,
+        Err(Refused::NotYetBuilt) => return Outcome::NotYetBuilt,
+        Err(Refused::OutOfMemory) => return Outcome::OutOfMemory,
         Err(_) => unreachable!(),
+    };
+    let job = Job::of(program, Bytes::of(Vec::new(alloc)), BUDGET, 1);
+    let Ok(mut state) = State::start(alloc, &job) else {
+        return Outcome::OutOfMemory;
+    };
+    match run(&job, &mut state, output) {
+        Ok(()) => Outcome::Done(exit_of(&state)),
+        Err(_) => Outcome::WriteFault,
     }
 }
 
 /// The exit value of a machine that has exited.
-fn exit_of(machine: &Machine) -> i32
-    requires { (exit : ℤ) × (machine.now.stop ≡ Some (Stop.Exit exit)) }
-    ensures { machine.now.stop ≡ Some (Stop.Exit result) }
+fn exit_of(state: &State) -> i32
+    requires { (exit : ℤ) × (state.now.stop ≡ Some (Stop.Exit exit)) }
+    ensures { state.now.stop ≡ Some (Stop.Exit result) }
 {
-    match machine.stop {
+    match state.stop {
         Some(Stop::Exit(exit)) => exit,
         _ => unreachable!(),
     }

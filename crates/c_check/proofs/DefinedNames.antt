@@ -13,7 +13,7 @@ use Rattle.c_tree.specs.View.{item_of, stmts_of}
 use Rattle.c_tree.specs.declared.tree.Fun.{Fun}
 use Rattle.c_tree.specs.declared.tree.Item.TheVariants as item
 use Rattle.c_tree.specs.declared.tree.Stmt.{Stmt}
-use Rattle.c_types.proofs.Keys.{apart, set_others, vec_cmp}
+use Rattle.c_scope.proofs.Keys.{apart, set_others, vec_cmp}
 
 pub updates_names : (bs : List ℕ) (s n : BTreeSet (Vec ℕ Global)) (b : Bool)
     → UpdatesBy vec_cmp (λ k. slice_cmp nat_cmp bs k.items) s n b

@@ -1,9 +1,8 @@
--- Blocks that are entered and left.
-use Rattle.std.proofs.Common.{◌≡◌, ℕ, List, [], ◌∷◌, ◌++◌, ◌<◌, length, Option, Some, None, refl, sym, ap, ◌∙◌, arith}
-use Rattle.std.proofs.lemmas.List.{same_from_push, length-append}
+-- The blocks round the innermost one on the way through statements.
+use Rattle.std.proofs.Common.{◌≡◌, ℕ, List, [], ◌∷◌, Option, Some, None, refl, ap, ◌∙◌}
 use Rattle.c_tree.specs.Accepted.{with_name, with_parameter, with_parameters}
 use Rattle.c_tree.specs.Declarators.{parameter_shape, with_declarator, with_declarators}
-use Rattle.c_tree.specs.Scope.{Scope, entered}
+use Rattle.c_tree.specs.Scope.{Scope}
 use Rattle.c_tree.specs.Statements.{behind, behind_beginning}
 use Rattle.c_tree.specs.Ty.{Ty}
 use Rattle.c_tree.specs.Var.{Var}
@@ -37,22 +36,6 @@ parameters_outer : (ps : List Param) (scope : Scope)
     → (with_parameters ps scope).outer ≡ scope.outer
 parameters_outer [] scope = refl
 parameters_outer (p ∷ ps) scope = parameters_outer ps (with_parameter p scope) ∙ with_name_outer p.name (parameter_shape p) scope
-
--- a block that was entered and left leaves the scope as it was
-pub left_is : (old between new : Scope) → between.outer ≡ (entered old).outer
-    → between.outer ≡ new.outer ++ new.inner ∷ [] → new ≡ old
-left_is old between new a b =
-    let both = same_from_push old.outer new.outer old.inner new.inner (sym a ∙ b) in
-    λ i. record { outer = sym both.0 i; inner = sym both.1 i }
-
-pub entered_long : (old between : Scope) → between.outer ≡ (entered old).outer
-    → 0 < length between.outer
-entered_long old between a = omega (arith, ap length a, length-append old.outer (old.inner ∷ []))
-
--- the end of a way on from an entered block on which no block was opened or closed
-pub from_entered : (old opened end : Scope) → opened ≡ entered old → end.outer ≡ opened.outer
-    → end.outer ≡ (entered old).outer
-from_entered old opened end a b = b ∙ ap (λ (x : Scope). x.outer) a
 
 -- that way through one scope more
 pub through : (opened between end : Scope) → end ≡ between → between.outer ≡ opened.outer

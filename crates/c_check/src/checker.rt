@@ -5,8 +5,9 @@ ghost use Rattle.c_tree.specs.Breach.{nothing_found};
 ghost use Rattle.c_tree.specs.Scope.{empty_scope};
 ghost use Rattle.c_check.specs.private.Checking.{scope_in};
 
+use c_rules::none_found;
 use c_tree::{Least, OutOfMemory, Ranking};
-use c_types::{Env, none_found};
+use c_types::Env;
 use std::alloc::Global;
 
 /// The names in scope, and the least breach so far.

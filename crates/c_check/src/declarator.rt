@@ -8,16 +8,17 @@ ghost use Rattle.c_check.specs.private.Checking.{scope_in, Notes};
 use crate::checker::Checker;
 use crate::initialiser::check_init;
 use crate::sizes::check_sizes;
-use c_tree::{Broken, OutOfMemory, Var};
-use c_types::{array_of, note, pointer_to};
+use c_rules::note;
+use c_tree::{Broken, OutOfMemory, Storage, Var};
+use c_types::{array_of, pointer_to};
 
 /// Notes what a declarator breaks, whose name is then in scope.
 #[tactic(auto, using(c_tree::proofs::LeastBreach::append_rules))]
-fn check_declarator(checker: &mut Checker, global: bool, v: &Var) -> Result<(), OutOfMemory>
+fn check_declarator(checker: &mut Checker, storage: Storage, v: &Var) -> Result<(), OutOfMemory>
     ensures scope { OnOk result
         (scope_in checker.new ≡ with_declarator (var_of v.now) (scope_in checker.old)) }
     ensures least { OnOk result
-        (Notes checker.old checker.new (declarator_breaches global (scope_in checker.old) (var_of v.now))) }
+        (Notes checker.old checker.new (declarator_breaches storage (scope_in checker.old) (var_of v.now))) }
 {
     let all_fit = check_sizes(&v.sizes, &checker.env, &mut checker.least);
     let is_here = checker.env.is_here(&v.name);
@@ -26,7 +27,7 @@ fn check_declarator(checker: &mut Checker, global: bool, v: &Var) -> Result<(), 
     let element = pointer_to(checker.alloc, &v.base, v.stars)?;
     let ty = array_of(checker.alloc, element, &v.sizes)?;
     checker.env.declare(&v.name, ty.again(checker.alloc)?)?;
-    check_init(v, &ty, global, &checker.env, &mut checker.least);
+    check_init(v, &ty, storage, &checker.env, &mut checker.least);
     Ok(())
 }
 
@@ -34,17 +35,17 @@ fn check_declarator(checker: &mut Checker, global: bool, v: &Var) -> Result<(), 
 #[tactic(auto, using(c_tree::proofs::LeastBreach::append_rules))]
 pub(crate) fn check_declarators(
     checker: &mut Checker,
-    global: bool,
+    storage: Storage,
     vars: &[Var],
 ) -> Result<(), OutOfMemory>
     ensures scope { OnOk result
         (scope_in checker.new ≡ with_declarators (map var_of vars.now) (scope_in checker.old)) }
     ensures least { OnOk result
         (Notes checker.old checker.new
-        (declarators_breaches global (scope_in checker.old) (map var_of vars.now))) }
+        (declarators_breaches storage (scope_in checker.old) (map var_of vars.now))) }
 {
     for v in vars {
-        check_declarator(checker, global, v)?;
+        check_declarator(checker, storage, v)?;
     }
     Ok(())
 }

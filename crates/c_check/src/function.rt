@@ -11,11 +11,9 @@ ghost use Rattle.c_check.specs.private.Functions.{declared_function, heading_bre
 
 use crate::checker::Checker;
 use crate::statement::check_body;
-use c_tree::{Broken, CType, Fun, Least, Name, OutOfMemory, Param, Place};
-use c_types::{Env, Known, note, parameter_type, parameter_types, pointer_to, same_type};
-
-/// The most parameters that a function can have.
-const MOST_PARAMETERS: usize = 8;
+use c_rules::{note, same_type};
+use c_tree::{Broken, CType, Fun, Least, MOST_PARAMETERS, Name, OutOfMemory, Param, Place};
+use c_types::{Env, Known, parameter_type, parameter_types, pointer_to};
 
 fn same_types(a: &[CType], b: &[CType]) -> bool
     ensures { result ≡ same_all (map ty_of a.now) (map ty_of b.now) }
@@ -83,9 +81,12 @@ fn check_heading(
     );
     let few = f.params.len() <= MOST_PARAMETERS;
     note(&mut checker.least, few, Broken::TooManyParameters, f.place);
-    checker
-        .env
-        .declare_fun_of(&f.name, gives.again(checker.alloc)?, types, is_defined)
+    let entry = Known::Function {
+        gives: gives.again(checker.alloc)?,
+        params: types,
+        is_defined,
+    };
+    checker.env.bind(&f.name, entry)
 }
 
 /// Notes a parameter without a name, or with one that another has.

@@ -11,8 +11,9 @@ ghost use Rattle.c_tree.specs.Typing.{type_at};
 ghost use Rattle.c_tree.specs.View.{expr_of, exprs_of, init_of, var_of, ty_of};
 ghost use Rattle.c_types.specs.Env.{scope_of};
 
-use c_tree::{Broken, CType, Expr, Init, Least, Place, Var};
-use c_types::{Env, Seen, evaluate, is_nought, may_take, note, value_of, walk};
+use c_rules::{Seen, may_take, note};
+use c_tree::{Broken, CType, Expr, Init, Least, Place, Storage, Use, Var};
+use c_types::{Env, evaluate, is_nought, value_of, walk};
 
 /// A global takes a constant.
 fn takes_constant(ty: &CType, nought: bool) -> bool
@@ -91,11 +92,11 @@ fn check_global(v: &Var, init: &Init, ty: &CType, env: &Env, least: &mut Least)
 #[tactic(auto, using(c_tree::proofs::LeastBreach::append_rules))]
 fn check_value(ty: &CType, e: &Expr, place: Place, env: &Env, least: &mut Least)
     ensures { Adds least.old least.new
-        (breaches (scope_of env.now) true (expr_of e.now)
+        (breaches (scope_of env.now) Use.Value (expr_of e.now)
         ++ unless (may_take (ty_of ty.now) (is_nought (expr_of e.now))
         (type_at (scope_of env.now) (expr_of e.now))) Broken.Mismatch place) }
 {
-    let from = walk(e, env, true, least);
+    let from = walk(e, env, Use::Value, least);
     let right = may_take(Seen::of(ty), is_nought(e), from);
     note(least, right, Broken::Mismatch, place);
 }
@@ -105,7 +106,7 @@ fn check_values(values: &[Expr], env: &Env, least: &mut Least)
     ensures { Adds least.old least.new (breaches_in (scope_of env.now) (exprs_of values.now)) }
 {
     for e in values {
-        let _ty = walk(e, env, true, least);
+        let _ty = walk(e, env, Use::Value, least);
     }
 }
 
@@ -126,16 +127,15 @@ fn check_local(v: &Var, init: &Init, ty: &CType, env: &Env, least: &mut Least)
 }
 
 /// Notes what a variable of a type is initialised with wrongly.
-pub(crate) fn check_init(v: &Var, ty: &CType, global: bool, env: &Env, least: &mut Least)
+pub(crate) fn check_init(v: &Var, ty: &CType, storage: Storage, env: &Env, least: &mut Least)
     requires { ty_of ty.now ≡ declared_shape (var_of v.now) }
-    ensures { Adds least.old least.new (init_breaches global (scope_of env.now) (var_of v.now)) }
+    ensures { Adds least.old least.new (init_breaches storage (scope_of env.now) (var_of v.now)) }
 {
     let Some(init) = &v.init else {
         return;
     };
-    if global {
-        check_global(v, init, ty, env, least);
-    } else {
-        check_local(v, init, ty, env, least);
+    match storage {
+        Storage::Static => check_global(v, init, ty, env, least),
+        Storage::Automatic => check_local(v, init, ty, env, least),
     }
 }

@@ -8,8 +8,9 @@ ghost use Rattle.c_tree.specs.View.{ty_of};
 ghost use Rattle.c_types.specs.Env.{scope_of, known};
 ghost use Rattle.c_check.specs.private.Marker.{can_be};
 
-use c_tree::{Broken, CType, Count, Least, Marker, Place};
-use c_types::{Env, Known, Seen, note};
+use c_rules::{Seen, note};
+use c_tree::{Broken, CHANNELS, CType, Count, Least, Marker, Place, REGIONS};
+use c_types::{Env, Known};
 
 /// What a name in a marker is for: the bytes that are sent, or how many.
 #[derive(Clone, Copy, Debug)]
@@ -59,11 +60,11 @@ pub(crate) fn check_marker(marker: &Marker, at: Place, env: &Env, least: &mut Le
     ensures { Adds least.old least.new (marker_breaches (scope_of env.now) marker.now at) }
 {
     match marker {
-        Marker::Begin(number) => note(least, *number < 256, Broken::Marker, at),
-        Marker::End(number) => note(least, *number < 256, Broken::Marker, at),
-        Marker::Wait(channel) => note(least, *channel < 64, Broken::Marker, at),
+        Marker::Begin(number) => note(least, *number < REGIONS, Broken::Marker, at),
+        Marker::End(number) => note(least, *number < REGIONS, Broken::Marker, at),
+        Marker::Wait(channel) => note(least, *channel < CHANNELS, Broken::Marker, at),
         Marker::Post(channel, name, name_at, count) => {
-            note(least, *channel < 64, Broken::Marker, at);
+            note(least, *channel < CHANNELS, Broken::Marker, at);
             check_named(Role::Source, env.find(name), *name_at, at, least);
             check_count(count, at, env, least);
         }

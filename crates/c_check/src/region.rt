@@ -8,8 +8,8 @@ ghost use Rattle.c_tree.specs.Regions.{is_same_block, is_right_before, is_right,
 ghost use Rattle.c_tree.specs.Scope.{otherwise};
 ghost use Rattle.c_check.specs.private.Firsts.{first_of, HasFirsts};
 
+use c_rules::note;
 use c_tree::{Broken, Edge, Least, OutOfMemory, Place};
-use c_types::note;
 use std::alloc::Global;
 use std::collections::BTreeMap;
 

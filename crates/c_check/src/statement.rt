@@ -9,22 +9,23 @@ ghost use Rattle.c_tree.specs.Shapes.{is_void};
 ghost use Rattle.c_tree.specs.Statements.{behind, behind_beginning, test_breaches, optional_test_breaches, unused_breaches, beginning_breaches, return_breaches, statement_breaches, else_breaches, body_breaches};
 ghost use Rattle.c_tree.specs.View.{expr_of, ty_of, first_of, boxed_stmt_of, else_of, stmt_of, stmts_of};
 ghost use Rattle.c_types.specs.Env.{scope_of};
-ghost use Rattle.c_types.specs.Seen.{seen_some};
+ghost use Rattle.c_rules.specs.Seen.{seen_some};
 ghost use Rattle.c_check.specs.private.Checking.{scope_in, Notes};
 ghost use Rattle.c_check.specs.private.Parts.{head_breaches};
 
 use crate::checker::Checker;
 use crate::declarator::check_declarators;
 use crate::marker::check_marker;
-use c_tree::{Broken, CType, Expr, First, Least, OutOfMemory, Place, Stmt, StmtKind};
-use c_types::{Env, Seen, is_nought, is_void, may_take, may_test, note, walk};
+use c_rules::{Seen, is_void, may_take, note};
+use c_tree::{Broken, CType, Expr, First, Least, OutOfMemory, Place, Stmt, StmtKind, Storage, Use};
+use c_types::{Env, is_nought, may_test, walk};
 
 /// Notes what a condition breaks.
 #[tactic(auto, using(c_tree::proofs::LeastBreach::append_rules))]
 fn check_test(test: &Expr, place: Place, env: &Env, least: &mut Least)
     ensures { Adds least.old least.new (test_breaches (scope_of env.now) (expr_of test.now) place) }
 {
-    let ty = walk(test, env, true, least);
+    let ty = walk(test, env, Use::Value, least);
     note(least, may_test(ty), Broken::Mismatch, place);
 }
 
@@ -43,7 +44,7 @@ fn check_unused(e: &Option<Expr>, env: &Env, least: &mut Least)
         (unused_breaches (scope_of env.now) (option_map expr_of e.now)) }
 {
     if let Some(e) = e {
-        let _ty = walk(e, env, false, least);
+        let _ty = walk(e, env, Use::Discarded, least);
     }
 }
 
@@ -65,7 +66,7 @@ fn check_return(value: &Option<Expr>, gives: &CType, place: Place, env: &Env, le
     match value {
         None => note(least, is_void(gives), Broken::Mismatch, place),
         Some(e) => {
-            let ty = walk(e, env, true, least);
+            let ty = walk(e, env, Use::Value, least);
             let right = may_return(gives, is_nought(e), ty);
             note(least, right, Broken::Mismatch, place);
         }
@@ -81,9 +82,9 @@ fn check_first(checker: &mut Checker, first: &First) -> Result<(), OutOfMemory>
 {
     match first {
         First::Nothing => Ok(()),
-        First::Vars(vars) => check_declarators(checker, false, vars),
+        First::Vars(vars) => check_declarators(checker, Storage::Automatic, vars),
         First::Expr(e) => {
-            let _ty = walk(e, &checker.env, false, &mut checker.least);
+            let _ty = walk(e, &checker.env, Use::Discarded, &mut checker.least);
             Ok(())
         }
     }
@@ -128,9 +129,9 @@ fn check_stmt(
     match &s.kind {
         StmtKind::Empty => {}
         StmtKind::Expr(e) => {
-            let _ty = walk(e, &checker.env, false, &mut checker.least);
+            let _ty = walk(e, &checker.env, Use::Discarded, &mut checker.least);
         }
-        StmtKind::Vars(vars) => check_declarators(checker, false, vars)?,
+        StmtKind::Vars(vars) => check_declarators(checker, Storage::Automatic, vars)?,
         StmtKind::Block(body) => check_block(checker, body, gives, in_loop)?,
         StmtKind::Marker(marker) => check_marker(marker, s.place, &checker.env, &mut checker.least),
         StmtKind::If(test, then, other) => {

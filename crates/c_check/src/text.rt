@@ -18,7 +18,7 @@ use crate::fault::{CheckFault, CheckKind, fault_of};
 use crate::function::check_function;
 use crate::main_function::has_main;
 use crate::region::check_edges;
-use c_tree::{Breach, Checked, Item, Least, OutOfMemory, Place, Ranking, Tree};
+use c_tree::{Breach, Checked, Item, Least, OutOfMemory, Place, Ranking, Storage, Tree};
 use std::alloc::Global;
 
 /// Notes what an item breaks, whose names are then in scope, by what the whole text defines and what it did before the item.
@@ -35,7 +35,7 @@ fn check_item(
         (part_breaches all ps (scope_in checker.old) (item_of item.now))) }
 {
     match item {
-        Item::Vars(_, vars) => check_declarators(checker, true, vars),
+        Item::Vars(_, vars) => check_declarators(checker, Storage::Static, vars),
         Item::Fun(f) => {
             let is_defined = whole.has(&f.name);
             let was_defined = before.has(&f.name);

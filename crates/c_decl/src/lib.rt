@@ -13,5 +13,5 @@ mod reserved;
 mod statement;
 mod unit;
 
-pub use laws::{one_answer_of_a_text, one_tree_of_a_text};
+pub use laws::{one_answer_of_a_text, one_tree_of_a_text, reserved_words_in_bytes};
 pub use unit::parse;

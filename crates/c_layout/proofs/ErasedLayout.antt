@@ -14,18 +14,12 @@ use Rattle.c_tree.proofs.CollectLemmas.{collect_erased, collect_all_erased}
 
 mutual
   same_slots : (s : Stmt) → statement_slots (erased s) ≡ statement_slots s
-  same_slots (stmt.Empty at) = refl
-  same_slots (stmt.Expr e at) = refl
-  same_slots (stmt.Vars ds at) = refl
   same_slots (stmt.Block body at) = same_body_slots body
-  same_slots (stmt.Marker m at) = refl
   same_slots (stmt.If c s other at) = ap₂ (λ a b. max (slots c) (max a b)) (same_slots s) (same_else_slots other)
   same_slots (stmt.While c s at) = ap (max (slots c)) (same_slots s)
   same_slots (stmt.Do s c at) = ap (λ a. max a (slots c)) (same_slots s)
   same_slots (stmt.For f c d s at) = ap (λ a. max (beginning_slots f) (max (optional c) (max (optional d) a))) (same_slots s)
-  same_slots (stmt.Return value at) = refl
-  same_slots (stmt.Break at) = refl
-  same_slots (stmt.Continue at) = refl
+  same_slots s = refl
 
   same_else_slots : (other : ElseBranch) → else_slots (erased_else other) ≡ else_slots other
   same_else_slots stmt.NoElse = refl

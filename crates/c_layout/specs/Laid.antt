@@ -4,6 +4,7 @@ use Rattle.bop_bits.specs.declared.class.Classes.{Classes}
 use Rattle.bop_bits.specs.declared.map.TheConstants.{STACK_FROM}
 use Rattle.c_tree.specs.declared.place.Place.{Place}
 use Rattle.c_tree.specs.Item.{Item}
+use Rattle.c_layout.specs.declared.limits.TheConstants.{FRAME_BYTES}
 use Rattle.c_layout.specs.Globals.{globals, addresses, classes_of, private_to}
 use Rattle.c_layout.specs.Frames.{Planned, Framed, frames}
 
@@ -30,4 +31,4 @@ is_data_too_large ps = nat_lt STACK_FROM (private_to (globals ps))
 -- the name of the first function whose frame has more than 65,536 bytes
 abbrev pub first_too_large : List Framed → Option Place
 first_too_large [] = None
-first_too_large (f ∷ fs) = if nat_lt 65536 f.frame.size then Some f.place else first_too_large fs
+first_too_large (f ∷ fs) = if nat_lt FRAME_BYTES f.frame.size then Some f.place else first_too_large fs

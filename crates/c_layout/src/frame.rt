@@ -2,6 +2,7 @@
 
 ghost use Rattle.std.specs.Prelude.{◌≡◌, ◌≤◌, ◌++◌, true, false, nat_lt, map, option_map, IfOk, OnOk, MatchOption};
 ghost use Rattle.c_tree.specs.View.{var_of, first_of, stmt_of, stmts_of, boxed_stmt_of, else_of, param_of};
+ghost use Rattle.c_layout.specs.declared.limits.TheConstants.{FRAME_BYTES};
 ghost use Rattle.c_layout.specs.private.Capped.{narrow};
 ghost use Rattle.c_layout.specs.Frames.{beginning_locals, locals, else_locals, body_locals, room_of, room_of_parameter, rooms, offsets_from, end_from, frame_of};
 ghost use Rattle.c_layout.specs.LayoutAnswers.{planned_of};
@@ -152,9 +153,9 @@ pub(crate) fn frame_of(
     body: &[Stmt],
 ) -> Result<Option<Frame>, OutOfMemory>
     ensures { IfOk result (λ frame. MatchOption frame
-        (nat_lt 65536 (frame_of (map param_of params.now) (stmts_of body.now)).size ≡ true)
+        (nat_lt FRAME_BYTES (frame_of (map param_of params.now) (stmts_of body.now)).size ≡ true)
         (λ f. (planned_of f ≡ frame_of (map param_of params.now) (stmts_of body.now))
-        × (nat_lt 65536 (frame_of (map param_of params.now) (stmts_of body.now)).size
+        × (nat_lt FRAME_BYTES (frame_of (map param_of params.now) (stmts_of body.now)).size
         ≡ false))) }
 {
     let slots = body_slots(body);

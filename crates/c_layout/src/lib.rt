@@ -13,5 +13,5 @@ mod slots;
 
 pub use fault::LayoutFault;
 pub use frame::Frame;
-pub use laws::erased_text_has_the_same_layout;
+pub use laws::{erased_text_has_the_same_layout, frame_in_numbers};
 pub use layout::{Layout, lay_out, layout_of};

@@ -9,8 +9,9 @@ ghost use Rattle.c_layout.specs.private.Capped.{near};
 ghost use Rattle.c_layout.specs.Sizes.{size, alignment, rounded};
 
 use crate::limits::FAR;
+use c_rules::none_found;
 use c_tree::{CType, Expr, Ranking, Var};
-use c_types::{evaluate, none_found};
+use c_types::evaluate;
 
 /// The least multiple of a unit that isn't below a number.
 pub(crate) fn round_up(unit: u32, n: u32) -> u32

@@ -1,22 +1,14 @@
 //! The meaning of a program.
 #![tactic(auto)]
 
-mod acts;
-mod blocks;
-mod calling;
-mod choosing;
-mod evaluating;
-mod executing;
+mod evaluation;
 mod halt;
-mod looping;
 mod machine;
 mod meaning;
 mod meant;
 mod output;
 mod pending;
 mod planning;
-mod starting;
-mod tasks;
 mod turning;
 
 pub use meaning::evaluate;

@@ -1,10 +1,14 @@
 //! A program that runs.
 
 ghost use Rattle.std.specs.Prelude.{◌≡◌, ◌+◌, OnOk};
-ghost use Rattle.c_meaning.specs.private.EvaluatorState.{store_of, Ran, SameSteps};
+ghost use Rattle.c_meaning.specs.private.EvaluatorState.{Ran, SameSteps};
 ghost use Rattle.c_semantics.specs.Memory.{value_at, store_at};
 ghost use Rattle.c_semantics.specs.Names.{address_of};
 ghost use Rattle.c_semantics.specs.Run.{count};
+
+pub(crate) mod act;
+mod acts;
+pub(crate) mod starting;
 
 use crate::halt::Halt;
 use crate::output::Output;

@@ -8,27 +8,27 @@ ghost use Rattle.c_layout.specs.LayoutAnswers.{plan_of};
 ghost use Rattle.c_tree.specs.Declarators.{count_of};
 ghost use Rattle.c_tree.specs.Arithmetic.{signed};
 ghost use Rattle.c_meaning.specs.Answer.{meaning_of, Ends};
-ghost use Rattle.c_resolve.specs.Entries.{numbered};
-ghost use Rattle.c_semantics.specs.Eval.{Calls, enter};
+ghost use Rattle.c_resolve.specs.DeclaredNames.{numbered};
+ghost use Rattle.c_semantics.specs.Eval.{enter};
 ghost use Rattle.c_meaning.specs.private.EvaluatorState.{store_of};
 ghost use Rattle.c_semantics.specs.Meaning.{definition, ended, main_name, meant, run_of, start};
-ghost use Rattle.c_semantics.specs.Names.{Definition};
+ghost use Rattle.c_resolve.specs.Context.{Context};
 ghost use Rattle.c_resolve.specs.Nodes.{target_run};
 ghost use Rattle.c_meaning.specs.private.Pending.{given_by};
 ghost use Rattle.c_semantics.specs.Run.{Ended};
 ghost use Rattle.c_meaning.specs.private.Turned.{all_after};
-ghost use Rattle.c_resolve.specs.Routines.{definitions_of, AreRoutinesOf};
+ghost use Rattle.c_resolve.specs.Routines.{definitions_of};
 
+use crate::evaluation::Evaluation;
 use crate::halt::Halt;
 use crate::machine::Machine;
+use crate::machine::starting::start_memory;
 use crate::meant::Meant;
 use crate::output::Output;
 use crate::pending::{Pending, Task, Work};
-use crate::starting::start_memory;
-use crate::turning::until_the_end;
 use bop_bits::STACK_TO;
 use c_layout::Layout;
-use c_resolve::{Routine, Target, main_number, resolve_text};
+use c_resolve::{Target, resolve_text};
 use c_semantics::Flow;
 use c_tree::{Checked, OutOfMemory, Tree};
 use std::alloc::Global;
@@ -50,8 +50,8 @@ fn start(alloc: Global, tree: &Tree, layout: &Layout, steps: u64) -> Result<Mach
 
 /// What a call of `main` names.
 fn target_of(main: Option<u32>) -> Target
-    ensures { (definitions : List Definition) (input : List ℕ) (calls : Calls)
-        → target_run definitions input calls result ≡ enter calls (numbered definitions main) }
+    ensures { (context : Context) → target_run context result
+        ≡ enter context.calls (numbered context.definitions main) }
 {
     match main {
         Some(number) => Target::Function(number),
@@ -64,7 +64,8 @@ fn call_main<'a>(alloc: Global, main: Option<u32>, steps: u64) -> Result<Pending
     ensures { IfOk result (λ pending. (text : List Item) → (input : List ℕ) → (machine : Machine)
         → store_of machine ≡ start text → machine.left ≡ steps
         → numbered (definitions_of text) main ≡ definition text main_name →
-        all_after (definitions_of text) text input pending machine ≡ run_of text input steps) }
+        all_after (record { text = text; input = input })
+        (record { pending = pending; machine = machine }) ≡ run_of text input steps) }
 {
     let target = target_of(main);
     let mut work = Vec::new(alloc);
@@ -115,10 +116,10 @@ pub fn evaluate(
         ≡ meant (items_of checked.now.tree) input.now steps) }
 {
     let tree = checked.tree();
-    let routines = resolve_text(alloc, tree, layout)?;
-    let main = main_number(alloc, tree)?;
-    let mut machine = start(alloc, tree, layout, steps)?;
-    let mut pending = call_main(alloc, main, steps)?;
-    let done = until_the_end(&mut pending, &mut machine, &routines, input);
-    meant_by(done, pending.flow, machine)
+    let text = resolve_text(alloc, tree, layout)?;
+    let machine = start(alloc, tree, layout, steps)?;
+    let pending = call_main(alloc, text.main, steps)?;
+    let mut evaluation = Evaluation { pending, machine };
+    let done = evaluation.until_the_end(&text.all, input);
+    meant_by(done, evaluation.pending.flow, evaluation.machine)
 }

@@ -1,8 +1,9 @@
 //! What is still to be done of a program.
 
+use crate::machine::act::{Assignment, BinaryAct, Stepping};
 use c_resolve::{Action, Beginning, Node, Passed, Target};
 use c_semantics::{Flow, Held, Home, Local, Operand};
-use c_tree::{Binary, Place, Step, Unary};
+use c_tree::{Binary, Place, Unary};
 
 /// The parts of a loop.
 #[derive(Clone, Copy)]
@@ -47,16 +48,14 @@ pub(crate) enum Task<'a> {
     /// The step of a node that leaves its operand.
     Count,
     Unary(Unary, Operand, Place),
-    /// `++` or `--`, with the place of its operand and its own.
-    Step(Step, Operand, Held, Place, Place),
+    Step(Stepping),
     Cast(Held),
-    Binary(Binary, Operand, Operand, Place),
+    Binary(BinaryAct),
     /// The right operand of `&&` or `||`, where the left one doesn't decide.
     Logic(Binary, &'a Node),
     Truth,
     Conditional(&'a Node, &'a Node),
-    /// An assignment, with the place of its left side and its own.
-    Assign(Option<Binary>, Operand, Operand, Held, Place, Place),
+    Assign(Assignment),
     /// A call with so many arguments.
     Call(Target, usize),
     Ignore,

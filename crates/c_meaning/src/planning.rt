@@ -3,6 +3,9 @@
 ghost use Rattle.std.specs.Prelude.{◌≡◌, ◌++◌, map, reverse, OnOk};
 ghost use Rattle.c_meaning.specs.declared.pending.Work.TheVariants as item;
 
+pub(crate) mod evaluating;
+pub(crate) mod executing;
+
 use crate::pending::{Task, Work};
 use c_tree::OutOfMemory;
 

@@ -1,5 +1,5 @@
 pub mod Acting
-pub mod EntriesLemmas
+pub mod BlockNamesLemmas
 pub mod Numbering
 pub mod Over
 pub mod Passing

@@ -9,7 +9,7 @@ use Rattle.c_layout.specs.Frames.{frames, framed, frame_of, Planned, Framed}
 use Rattle.c_layout.specs.Laid.{planned}
 use Rattle.c_resolve.specs.declared.numbers.Numbers.{Numbers}
 use Rattle.c_semantics.specs.Names.{Definition}
-use Rattle.c_resolve.specs.Entries.{indexed_at, numbered}
+use Rattle.c_resolve.specs.DeclaredNames.{indexed_at, numbered}
 use Rattle.c_semantics.specs.Meaning.{definition, defined_by}
 use Rattle.c_resolve.specs.Routines.{own_definition, definitions_of, number_from, or_number, AreNumbersOf, definition_frame}
 

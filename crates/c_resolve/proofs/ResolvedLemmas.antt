@@ -13,9 +13,10 @@ use Rattle.c_tree.specs.Arithmetic.{converted}
 use Rattle.c_semantics.specs.Run.{Run, Ended, Goes, StackFull, More, Undef, pure, ◌>>=◌, ◌>>◌, then_run, count}
 use Rattle.c_semantics.specs.Memory.{value_at}
 use Rattle.c_semantics.specs.Names.{Names, known, types, address_of, home_of, held, held_by}
-use Rattle.c_semantics.specs.Eval.{Calls, eval, arguments, held_in}
+use Rattle.c_semantics.specs.Eval.{eval, arguments, held_in}
 use Rattle.c_resolve.specs.Nodes.{placed, name_run, name_address, cast_run, cast_value, all_values}
 use Rattle.c_resolve.specs.private.Resolved.{runs_of}
+use Rattle.c_resolve.specs.Context.{Context}
 
 otherwise_none : (o : Option Known) → otherwise o None ≡ o
 otherwise_none None = refl
@@ -35,11 +36,11 @@ joined (More output) f g = refl
 joined (Undef output act at) f g = refl
 
 -- a name
-pub name_made : (input : List ℕ) (calls : Calls) (names : Names) (name : List ℕ) (at : Place)
-    → placed (name_run (home_of (names name)) (held_by (type_at (types names) (expr.Name name at))) at) (name_address (home_of (names name))) at ≡ runs_of input calls names (expr.Name name at)
-name_made input calls names name at =
-    let h = held_in input calls names (expr.Name name at) in
-    let same : name_run (home_of (names name)) h at ≡ eval input calls names (expr.Name name at) = λ i store left. joined (count store left) (λ _. address_of (home_of (names name))) (λ x. value_at h x at) i in
+pub name_made : (context : Context) (names : Names) (name : List ℕ) (at : Place)
+    → placed (name_run (home_of (names name)) (held_by (type_at (types names) (expr.Name name at))) at) (name_address (home_of (names name))) at ≡ runs_of context names (expr.Name name at)
+name_made context names name at =
+    let h = held_in context.input context.calls names (expr.Name name at) in
+    let same : name_run (home_of (names name)) h at ≡ eval context.input context.calls names (expr.Name name at) = λ i store left. joined (count store left) (λ _. address_of (home_of (names name))) (λ x. value_at h x at) i in
     λ i. placed (same i) (name_address (home_of (names name))) at
 
 pub converted_held : (t : Ty) → cast_value (held t) ≡ converted t
@@ -56,8 +57,8 @@ pub converts : (t : Ty) (a : Run ℕ)
 converts t a = ap (λ (f : ℕ → ℕ). a >>= λ x. count >> pure (f x)) (converted_held t)
 
 -- the arguments of a call
-pub all_made : (input : List ℕ) (calls : Calls) (names : Names) (es : List Expr)
-    → all_values (map (λ e. runs_of input calls names (expr_of e)) es)
-    ≡ arguments input calls names (exprs_of es)
-all_made input calls names [] = refl
-all_made input calls names (e ∷ es) = ap (λ (r : Run (List ℕ)). eval input calls names (expr_of e) >>= λ v. r >>= λ vs. pure (v ∷ vs)) (all_made input calls names es)
+pub all_made : (context : Context) (names : Names) (es : List Expr)
+    → all_values (map (λ e. runs_of context names (expr_of e)) es)
+    ≡ arguments context.input context.calls names (exprs_of es)
+all_made context names [] = refl
+all_made context names (e ∷ es) = ap (λ (r : Run (List ℕ)). eval context.input context.calls names (expr_of e) >>= λ v. r >>= λ vs. pure (v ∷ vs)) (all_made context names es)

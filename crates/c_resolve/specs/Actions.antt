@@ -18,8 +18,7 @@ use Rattle.c_resolve.specs.declared.routine.Parameter.{Parameter}
 use Rattle.c_resolve.specs.declared.routine.Routine.{Routine}
 use Rattle.c_semantics.specs.Run.{Run, pure, ◌>>=◌, ◌>>◌, count, now, change}
 use Rattle.c_semantics.specs.Memory.{store_at, blank}
-use Rattle.c_semantics.specs.Names.{Definition}
-use Rattle.c_semantics.specs.Eval.{Calls}
+use Rattle.c_resolve.specs.Context.{Context}
 use Rattle.c_semantics.specs.declared.flow.Flow.{Flow}
 use Rattle.c_semantics.specs.declared.flow.Flow.TheVariants.{Normal, AtBreak, AtContinue, AtReturn}
 use Rattle.c_semantics.specs.Exec.{next, after_turn, loop, count_where, with_locals}
@@ -85,12 +84,12 @@ ends_with f = do
   count
   pure f
 
-module _ (definitions : List Definition) (input : List ℕ) (calls : Calls) where
+module _ (context : Context) where
   abbrev pub value_run : Node → Run ℕ
-  value_run n = (runs definitions input calls n).value
+  value_run n = (runs context n).value
 
   abbrev pub unused_run : Node → Run (Unit {0})
-  unused_run n = (runs definitions input calls n).unused
+  unused_run n = (runs context n).unused
 
   abbrev pub init_run : Local → Place → Begun → Run (Unit {0})
   init_run l at begun.Blank = do

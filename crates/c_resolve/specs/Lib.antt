@@ -1,5 +1,6 @@
 pub mod Actions
-pub mod Entries
+pub mod Context
+pub mod DeclaredNames
 pub mod Nodes
 pub mod Routines
 pub mod private

@@ -14,10 +14,11 @@ use Rattle.c_resolve.specs.declared.node.NodeKind.TheOpen as one
 use Rattle.c_resolve.specs.declared.node.NodeKind.TheFolds.{fold-Node, fold-NodeKind}
 use Rattle.c_resolve.specs.declared.node.Target.{Target}
 use Rattle.c_resolve.specs.declared.node.Target.TheVariants as target
+use Rattle.c_resolve.specs.Context.{Context}
 use Rattle.c_semantics.specs.Run.{Run, pure, ◌>>=◌, ◌>>◌, count, given_or}
 use Rattle.c_semantics.specs.Memory.{value_at}
-use Rattle.c_semantics.specs.Names.{Definition, address_of}
-use Rattle.c_semantics.specs.Eval.{Calls, enter, getchar, putchar, call, strict, binary_run, unary_run, stepped, assign_run, conditional_run}
+use Rattle.c_semantics.specs.Names.{address_of}
+use Rattle.c_semantics.specs.Eval.{enter, getchar, putchar, call, strict, binary_run, unary_run, stepped, assign_run, conditional_run}
 
 -- what a run does, without its value
 abbrev pub ignored : {A : Type 0} → Run A → Run (Unit {0})
@@ -96,12 +97,12 @@ all_values (r ∷ rs) = do
 abbrev pub at_place : (Place → Runs) → Place → Runs
 at_place kind at = record (kind at) { place = at }
 
-module _ (definitions : List Definition) (input : List ℕ) (calls : Calls) where
+module _ (context : Context) where
   abbrev pub target_run : Target → List ℕ → Run (Option ℕ)
-  target_run (target.Function k) vs = enter calls (slice_get definitions k) vs
-  target_run target.Getchar vs = getchar input
+  target_run (target.Function k) vs = enter context.calls (slice_get context.definitions k) vs
+  target_run target.Getchar vs = getchar context.input
   target_run target.Putchar vs = putchar vs
-  target_run target.Undefined vs = enter calls None vs
+  target_run target.Undefined vs = enter context.calls None vs
 
   -- one level of an expression, with what each operand does in its place
   abbrev pub node_step : NodeKind-F (Place → Runs) Runs → Place → Runs

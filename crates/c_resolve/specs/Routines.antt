@@ -10,7 +10,8 @@ use Rattle.c_resolve.specs.declared.routine.Routine.{Routine}
 use Rattle.c_semantics.specs.Run.{Run}
 use Rattle.c_semantics.specs.Eval.{Calls}
 use Rattle.c_semantics.specs.Names.{Definition}
-use Rattle.c_resolve.specs.Entries.{indexed_at}
+use Rattle.c_resolve.specs.Context.{Context}
+use Rattle.c_resolve.specs.DeclaredNames.{indexed_at}
 use Rattle.c_resolve.specs.Actions.{routine_run}
 use Rattle.c_semantics.specs.Meaning.{whole_run}
 
@@ -42,6 +43,11 @@ pub record AreNumbersOf (numbers : Numbers) (ds : List Definition) : Type 0 wher
 abbrev pub definition_frame : Definition → Planned
 definition_frame d = frame_of d.function.parameters d.body
 
+-- the context of what a text defines
+abbrev pub context_of : List Item → List ℕ → Calls → Context
+context_of text input calls =
+    record { definitions = definitions_of text; input = input; calls = calls }
+
 -- what a call of a definition does
 abbrev pub definition_run : List Item → List ℕ → Calls → Definition → List ℕ → Run (Option ℕ)
 definition_run text input calls d vs =
@@ -50,5 +56,5 @@ definition_run text input calls d vs =
 -- the routines of a text do what its definitions do, one for one
 abbrev pub AreRoutinesOf : List Item → List Routine → Type 0
 AreRoutinesOf text routines = (input : List ℕ) (calls : Calls)
-    → map (routine_run (definitions_of text) input calls) routines
+    → map (routine_run (context_of text input calls)) routines
     ≡ map (definition_run text input calls) (definitions_of text)

@@ -1,27 +1,28 @@
 //! What calls name.
 
-ghost use Rattle.std.specs.Prelude.{◌≡◌, ℕ, List, [], Some, true};
+ghost use Rattle.std.specs.Prelude.{◌≡◌, List, [], Some, true};
 ghost use Rattle.c_tree.specs.Scope.{FunctionOf};
 ghost use Rattle.c_tree.specs.View.{ty_of};
 ghost use Rattle.c_tree.specs.Typing.{called as named, result_of, parameters_of};
 ghost use Rattle.c_types.specs.Call.{parameters};
-ghost use Rattle.c_types.specs.Seen.{seen_some};
-ghost use Rattle.c_semantics.specs.Eval.{Calls, called};
+ghost use Rattle.c_rules.specs.Seen.{seen_some};
+ghost use Rattle.c_semantics.specs.Eval.{called};
 ghost use Rattle.c_semantics.specs.Names.{Definition, types};
+ghost use Rattle.c_resolve.specs.Context.{Context};
 ghost use Rattle.c_resolve.specs.Nodes.{target_run};
-ghost use Rattle.c_resolve.specs.private.Resolved.{names_in};
+ghost use Rattle.c_resolve.specs.private.Resolved.{names_in, scope};
 
 use crate::named::Named;
 use crate::names::Names;
 use crate::node::Target;
+use c_rules::{Base, Seen, is_void};
 use c_tree::{CType, Callee};
-use c_types::{Base, Parameters, Seen, is_void};
+use c_types::Parameters;
 
 /// What a call names.
 pub(super) fn target(callee: &Callee, names: &Names) -> Target
-    ensures { (definitions : List Definition) → (input : List ℕ) → (calls : Calls)
-        → target_run definitions input calls result
-        ≡ called input calls (names_in definitions names.now) callee.now }
+    ensures { (context : Context) → target_run context result
+        ≡ called context.input context.calls (scope context names.now) callee.now }
 {
     match callee {
         Callee::Getchar => Target::Getchar,

@@ -1,16 +1,13 @@
 //! Declarations of locals.
 
-ghost use Rattle.std.specs.Prelude.{◌≡◌, ◌++◌, ℕ, List, length, map, IfOk, OnOk};
+ghost use Rattle.std.specs.Prelude.{◌≡◌, ◌++◌, length, map, IfOk, OnOk};
 ghost use Rattle.c_tree.specs.Declarators.{declared_shape};
 ghost use Rattle.c_tree.specs.View.{first_of, var_of, ty_of};
 ghost use Rattle.c_layout.specs.Frames.{beginning_locals};
 ghost use Rattle.c_layout.specs.Sizes.{size};
-ghost use Rattle.c_resolve.specs.private.Acted.{IsKept, AreNames};
-ghost use Rattle.c_resolve.specs.Actions.{init_run, passing, first_run};
-ghost use Rattle.c_semantics.specs.Eval.{Calls};
-ghost use Rattle.c_semantics.specs.Exec.{has_init, first_place, declared_locals, beginning_own, named_beginning, begin, with_local, with_locals_named, initialised, declare};
-ghost use Rattle.c_semantics.specs.Names.{Definition, held};
-ghost use Rattle.c_resolve.specs.private.Resolved.{names_in};
+ghost use Rattle.c_resolve.specs.private.Acted.{IsKept, AreNames, IsInitOf, ArePassedOf, IsBeginningOf, own_at};
+ghost use Rattle.c_semantics.specs.Exec.{has_init, first_place, declared_locals, beginning_own, named_beginning, with_local, with_locals_named};
+ghost use Rattle.c_semantics.specs.Names.{held};
 
 use crate::action::{Beginning, Begun, Passed};
 use crate::expression::resolve;
@@ -43,28 +40,17 @@ pub(super) fn has_init(vars: &[Var]) -> bool
     false
 }
 
-/// The objects of declarators.
-pub(super) fn push_locals(
-    alloc: Global,
-    vars: &[Var],
-    places: &[u32],
-    out: &mut Vec<Local>,
-) -> Result<(), OutOfMemory>
-    ensures { OnOk result (out.new.items
-        ≡ out.old.items ++ declared_locals places.now (map var_of vars.now)) }
+/// Adds an object, where there is an offset for it.
+fn push_local(local: Local, places: &[u32], out: &mut Vec<Local>) -> Result<(), OutOfMemory>
+    ensures { OnOk result (out.new.items ≡ out.old.items ++ own_at places.now local) }
 {
-    let mut rest = places;
-    for v in vars {
-        let Some(offset) = rest.first() else {
-            return Ok(());
-        };
-        out.push(Local {
-            offset: *offset,
-            size: size(&declared_type(alloc, v)?)?,
-        })?;
-        rest = past(rest, 1);
+    match places.first() {
+        None => Ok(()),
+        Some(_) => {
+            out.push(local)?;
+            Ok(())
+        }
     }
-    Ok(())
 }
 
 /// Declares a local.
@@ -81,52 +67,37 @@ fn declare_local(v: &Var, ty: CType, places: &[u32], names: &mut Names) -> Resul
 }
 
 /// What a declarator does to its object.
-fn resolve_init(
-    alloc: Global,
-    v: &Var,
-    local: Local,
-    holds: Held,
-    names: &Names,
-) -> Result<Begun, OutOfMemory>
+fn resolve_init(v: &Var, local: Local, holds: Held, names: &Names) -> Result<Begun, OutOfMemory>
     requires bytes { local.size ≡ size (declared_shape (var_of v.now)) }
     requires holds { holds ≡ held (declared_shape (var_of v.now)) }
-    ensures { IfOk result (λ begun. (definitions : List Definition) → (input : List ℕ)
-        → (calls : Calls) →
-        init_run definitions input calls local v.now.place begun
-        ≡ initialised input calls (names_in definitions names.now) local.offset (var_of v.now)
-        (var_of v.now).init) }
+    ensures { IfOk result
+        (λ begun. IsInitOf names.now local.offset local v.now.place begun (var_of v.now)) }
 {
     match &v.init {
         None => Ok(Begun::Blank),
-        Some(Init::One(e)) => Ok(Begun::Set(holds, resolve(alloc, e, names)?.node)),
+        Some(Init::One(e)) => Ok(Begun::Set(holds, resolve(e, names)?.node)),
         Some(Init::Many(_)) => Ok(Begun::Nothing),
     }
 }
 
 /// What a declarator does, whose name is then in scope.
-fn resolve_var(
-    alloc: Global,
-    v: &Var,
-    places: &[u32],
-    names: &mut Names,
-) -> Result<Passed, OutOfMemory>
+fn resolve_var(v: &Var, places: &[u32], names: &mut Names) -> Result<Passed, OutOfMemory>
     ensures names { OnOk result
         (AreNames names.old names.new (with_local places.now (var_of v.now))) }
     ensures kept { OnOk result (IsKept names.old names.new) }
+    ensures local { IfOk result (λ p. p.local
+        ≡ record { offset = first_place places.now; size = size (declared_shape (var_of v.now)) }) }
     ensures means { IfOk result
-        (λ p. (definitions : List Definition) → (input : List ℕ) → (calls : Calls) →
-        init_run definitions input calls p.local p.place p.begun
-        ≡ initialised input calls (names_in definitions names.new) (first_place places.now)
-        (var_of v.now) (var_of v.now).init) }
+        (λ p. IsInitOf names.new (first_place places.now) p.local p.place p.begun (var_of v.now)) }
 {
-    let ty = declared_type(alloc, v)?;
+    let ty = declared_type(names.alloc, v)?;
     let local = Local {
         offset: first_place(places),
         size: size(&ty)?,
     };
     let holds = held_of(&ty);
     declare_local(v, ty, places, names)?;
-    let begun = resolve_init(alloc, v, local, holds, names)?;
+    let begun = resolve_init(v, local, holds, names)?;
     Ok(Passed {
         local,
         begun,
@@ -134,49 +105,40 @@ fn resolve_var(
     })
 }
 
+/// What declarators do, and their objects.
+#[derive(Debug, Drop)]
+pub(super) struct Declared {
+    pub(super) passed: Vec<Passed>,
+    pub(super) own: Vec<Local>,
+}
+
 /// What declarators do, whose names are then in scope.
 pub(super) fn resolve_vars(
-    alloc: Global,
     vars: &[Var],
     places: &[u32],
     names: &mut Names,
-) -> Result<Vec<Passed>, OutOfMemory>
+) -> Result<Declared, OutOfMemory>
     ensures names { OnOk result
         (AreNames names.old names.new (with_locals_named places.now (map var_of vars.now))) }
     ensures kept { OnOk result (IsKept names.old names.new) }
+    ensures own { IfOk result
+        (λ d. d.own.items ≡ declared_locals places.now (map var_of vars.now)) }
     ensures means { IfOk result
-        (λ ps. (definitions : List Definition) → (input : List ℕ) → (calls : Calls) →
-        passing definitions input calls ps.items
-        ≡ declare input calls (names_in definitions names.old) places.now
-        (map var_of vars.now)) }
+        (λ d. ArePassedOf names.old places.now d.passed.items (map var_of vars.now)) }
 {
-    let mut out = Vec::new(alloc);
+    let mut out = Vec::new(names.alloc);
+    let mut own = Vec::new(names.alloc);
     let mut rest = places;
     for v in vars {
-        out.push(resolve_var(alloc, v, rest, names)?)?;
+        let passed = resolve_var(v, rest, names)?;
+        push_local(passed.local, rest, &mut own)?;
+        out.push(passed)?;
         rest = past(rest, 1);
     }
-    Ok(out)
+    Ok(Declared { passed: out, own })
 }
 
-/// The objects that a `for` declares itself.
-pub(super) fn push_first_locals(
-    alloc: Global,
-    first: &First,
-    places: &[u32],
-    out: &mut Vec<Local>,
-) -> Result<(), OutOfMemory>
-    ensures { OnOk result (out.new.items
-        ≡ out.old.items ++ beginning_own places.now (first_of first.now)) }
-{
-    match first {
-        First::Nothing => Ok(()),
-        First::Vars(vars) => push_locals(alloc, vars, places, out),
-        First::Expr(_) => Ok(()),
-    }
-}
-
-/// How many they are.
+/// How many objects a `for` declares itself.
 pub(super) fn first_count(first: &First) -> usize
     ensures { result ≡ length (beginning_locals (first_of first.now)) }
 {
@@ -187,24 +149,43 @@ pub(super) fn first_count(first: &First) -> usize
     }
 }
 
+/// What a `for` begins with, and the objects that it declares itself.
+#[derive(Debug, Drop)]
+pub(super) struct Begins {
+    pub(super) beginning: Beginning,
+    pub(super) own: Vec<Local>,
+}
+
 /// What a `for` begins with, whose names are then in scope.
 pub(super) fn resolve_first(
-    alloc: Global,
     first: &First,
     places: &[u32],
     names: &mut Names,
-) -> Result<Beginning, OutOfMemory>
+) -> Result<Begins, OutOfMemory>
     ensures names { OnOk result
         (AreNames names.old names.new (named_beginning places.now (first_of first.now))) }
     ensures kept { OnOk result (IsKept names.old names.new) }
+    ensures own { IfOk result
+        (λ begins. begins.own.items ≡ beginning_own places.now (first_of first.now)) }
     ensures means { IfOk result
-        (λ begins. (definitions : List Definition) → (input : List ℕ) → (calls : Calls) →
-        first_run definitions input calls begins
-        ≡ begin input calls (names_in definitions names.old) places.now (first_of first.now)) }
+        (λ begins. IsBeginningOf names.old places.now begins.beginning (first_of first.now)) }
 {
+    let own = Vec::new(names.alloc);
     match first {
-        First::Nothing => Ok(Beginning::Nothing),
-        First::Vars(vars) => Ok(Beginning::Vars(resolve_vars(alloc, vars, places, names)?)),
-        First::Expr(e) => Ok(Beginning::Expr(resolve(alloc, e, names)?.node)),
+        First::Nothing => {
+            let beginning = Beginning::Nothing;
+            Ok(Begins { beginning, own })
+        }
+        First::Vars(vars) => {
+            let declared = resolve_vars(vars, places, names)?;
+            Ok(Begins {
+                beginning: Beginning::Vars(declared.passed),
+                own: declared.own,
+            })
+        }
+        First::Expr(e) => {
+            let beginning = Beginning::Expr(resolve(e, names)?.node);
+            Ok(Begins { beginning, own })
+        }
     }
 }

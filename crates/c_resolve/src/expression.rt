@@ -1,17 +1,16 @@
 //! Expressions.
 
-ghost use Rattle.std.specs.Prelude.{◌≡◌, ℕ, List, true, None, map, IfOk};
+ghost use Rattle.std.specs.Prelude.{◌≡◌, List, true, None, IfOk};
 ghost use Rattle.c_tree.specs.Rules.{is_place};
 ghost use Rattle.c_tree.specs.Expr as expr;
-ghost use Rattle.c_tree.specs.Typing.{type_at, all_taken};
+ghost use Rattle.c_tree.specs.Typing.{all_taken};
 ghost use Rattle.c_tree.specs.View.{expr_of, exprs_of};
 ghost use Rattle.c_types.specs.Call.{parameters};
-ghost use Rattle.c_types.specs.Seen.{seen_some, is_flat};
-ghost use Rattle.c_types.specs.Spine.{first_operand, below, down};
-ghost use Rattle.c_semantics.specs.Eval.{Calls, arguments};
+ghost use Rattle.c_rules.specs.Seen.{is_flat};
+ghost use Rattle.c_tree.specs.FirstOperand.{first_operand};
+ghost use Rattle.c_rules.specs.Spine.{below, down};
 ghost use Rattle.c_semantics.specs.Names.{Definition, types};
-ghost use Rattle.c_resolve.specs.Nodes.{runs, all_values};
-ghost use Rattle.c_resolve.specs.private.Resolved.{names_in, IsTypeOf, IsNodeOf};
+ghost use Rattle.c_resolve.specs.private.Resolved.{names_in, IsTypeOf, IsNodeOf, AreArgumentsOf};
 
 use crate::callee::{parameters, target, value_type};
 use crate::named::Named;
@@ -22,13 +21,10 @@ use crate::part::{
     build_name, build_step, build_unary,
 };
 use crate::typed::Typed;
+use c_rules::{Along, Base, LIMIT, Seen, descend, follow, operand};
 use c_semantics::Home;
-use c_tree::{Callee, Expr, ExprKind, Name, OutOfMemory, Place};
-use c_types::{
-    Along, Base, LIMIT, Parameters, Passed, Seen, descend, follow, is_nought, is_place, operand,
-    where_right,
-};
-use std::alloc::Global;
+use c_tree::{Callee, END_OF_FILE, Expr, ExprKind, Name, OutOfMemory, Place};
+use c_types::{Parameters, Passed, is_nought, is_place, where_right};
 
 /// A name.
 #[tactic(auto, using(crate::proofs::ResolvedLemmas::typed_name))]
@@ -52,7 +48,6 @@ struct AllArguments {
 
 #[cycle(resolving)]
 fn resolve_arguments<'a>(
-    alloc: Global,
     args: &'a [Expr],
     taken: Parameters<'a>,
     names: &'a Names,
@@ -62,11 +57,9 @@ fn resolve_arguments<'a>(
         → r.are_taken ≡ all_taken (types (names_in definitions names.now)) (parameters taken.entry)
         (exprs_of args.now)) }
     ensures means { IfOk result
-        (λ r. (definitions : List Definition) → (input : List ℕ) → (calls : Calls) →
-        all_values (map (runs definitions input calls) r.nodes.items)
-        ≡ arguments input calls (names_in definitions names.now) (exprs_of args.now)) }
+        (λ r. AreArgumentsOf names.now r.nodes.items (exprs_of args.now)) }
 {
-    let mut nodes = Vec::new(alloc);
+    let mut nodes = Vec::new(names.alloc);
     let mut passed = Passed {
         counts: true,
         fits: true,
@@ -74,7 +67,7 @@ fn resolve_arguments<'a>(
     };
     let mut rest = taken;
     for arg in args {
-        let value = resolve(alloc, arg, names)?;
+        let value = resolve(arg, names)?;
         passed = rest.pass(passed, is_nought(arg), value.ty);
         rest = rest.others();
         nodes.push(value.node)?;
@@ -88,7 +81,6 @@ fn resolve_arguments<'a>(
 /// A call.
 #[cycle(resolving)]
 fn resolve_call<'a>(
-    alloc: Global,
     callee: &'a Callee,
     args: &'a [Expr],
     names: &'a Names,
@@ -99,7 +91,7 @@ fn resolve_call<'a>(
     ensures means { IfOk result
         (λ t. IsNodeOf names.now t.node (expr.Call callee.now (exprs_of args.now) at)) }
 {
-    let all = resolve_arguments(alloc, args, parameters(callee, names), names)?;
+    let all = resolve_arguments(args, parameters(callee, names), names)?;
     let ty = where_right(all.are_taken, value_type(callee, names));
     let kind = NodeKind::Call(target(callee, names), all.nodes);
     Ok(Typed {
@@ -111,7 +103,7 @@ fn resolve_call<'a>(
 /// An expression without a first operand.
 #[cycle(resolving)]
 #[tactic(auto, using(c_tree::proofs::ViewLemmas::views))]
-fn resolve_leaf<'a>(alloc: Global, e: &'a Expr, names: &'a Names) -> Result<Typed<'a>, OutOfMemory>
+fn resolve_leaf<'a>(e: &'a Expr, names: &'a Names) -> Result<Typed<'a>, OutOfMemory>
     requires { first_operand (expr_of e.now) ≡ None }
     ensures ty { IfOk result (λ t. IsTypeOf names.now t.ty (expr_of e.now)) }
     ensures flat { IfOk result (λ t. is_place (expr_of e.now) ≡ true → is_flat t.ty ≡ true) }
@@ -121,14 +113,8 @@ fn resolve_leaf<'a>(alloc: Global, e: &'a Expr, names: &'a Names) -> Result<Type
         ExprKind::Name(name) => Ok(resolve_name(name, names, e.place)),
         ExprKind::Number(ty, value) => Ok(build_constant(*value, Seen::of(ty), e.place)),
         ExprKind::Character(code) => Ok(build_constant(*code, Seen::Is(Base::Int), e.place)),
-        ExprKind::Eof => Ok(build_constant(u32::MAX, Seen::Is(Base::Int), e.place)),
-        ExprKind::Call(callee, args) => resolve_call(
-            alloc,
-            callee,
-            args.as_slice(),
-            names,
-            e.place,
-        ),
+        ExprKind::Eof => Ok(build_constant(END_OF_FILE, Seen::Is(Base::Int), e.place)),
+        ExprKind::Call(callee, args) => resolve_call(callee, args.as_slice(), names, e.place),
         _ => unreachable!(),
     }
 }
@@ -137,7 +123,6 @@ fn resolve_leaf<'a>(alloc: Global, e: &'a Expr, names: &'a Names) -> Result<Type
 #[cycle(resolving)]
 #[tactic(auto, using(c_tree::proofs::ViewLemmas::views))]
 fn resolve_above<'a>(
-    alloc: Global,
     e: &'a Expr,
     first: Typed<'a>,
     names: &'a Names,
@@ -156,28 +141,28 @@ fn resolve_above<'a>(
         ExprKind::Character(_) => Ok(first),
         ExprKind::Eof => Ok(first),
         ExprKind::Call(_, _) => Ok(first),
-        ExprKind::Unary(op, a) => build_unary(alloc, *op, is_place(a), first, e.place),
-        ExprKind::Step(how, a) => build_step(alloc, *how, is_place(a), first, e.place),
-        ExprKind::Cast(to, _) => build_cast(alloc, to, first, e.place),
+        ExprKind::Unary(op, a) => build_unary(names.alloc, *op, is_place(a), first, e.place),
+        ExprKind::Step(how, a) => build_step(names.alloc, *how, is_place(a), first, e.place),
+        ExprKind::Cast(to, _) => build_cast(names.alloc, to, first, e.place),
         ExprKind::Binary(op, a, b) => {
-            let second = resolve(alloc, b, names)?;
+            let second = resolve(b, names)?;
             let noughts = (is_nought(a), is_nought(b));
-            build_binary(alloc, *op, noughts, first, second, e.place)
+            build_binary(names.alloc, *op, noughts, first, second, e.place)
         }
         ExprKind::Conditional(_, a, b) => {
-            let left = resolve(alloc, a, names)?;
-            let right = resolve(alloc, b, names)?;
+            let left = resolve(a, names)?;
+            let right = resolve(b, names)?;
             let noughts = (is_nought(a), is_nought(b));
-            build_conditional(alloc, noughts, first, left, right, e.place)
+            build_conditional(names.alloc, noughts, first, left, right, e.place)
         }
         ExprKind::Assign(how, a, b) => {
-            let second = resolve(alloc, b, names)?;
+            let second = resolve(b, names)?;
             let rule = (*how, is_nought(b));
-            build_assign(alloc, rule, is_place(a), first, second, e.place)
+            build_assign(names.alloc, rule, is_place(a), first, second, e.place)
         }
         ExprKind::Index(_, b) => {
-            let second = resolve(alloc, b, names)?;
-            build_index(alloc, first, second, e.place)
+            let second = resolve(b, names)?;
+            build_index(names.alloc, first, second, e.place)
         }
     }
 }
@@ -185,7 +170,6 @@ fn resolve_above<'a>(
 /// An expression over an operand so many steps further down, which is resolved.
 #[cycle(resolving)]
 fn rise<'a>(
-    alloc: Global,
     e: &'a Expr,
     count: u32,
     end: Typed<'a>,
@@ -204,27 +188,27 @@ fn rise<'a>(
     while 0 < left {
         left -= 1;
         let node = descend(Along::Operands, e, left);
-        typed = resolve_above(alloc, node, typed, names)?;
+        typed = resolve_above(node, typed, names)?;
     }
     Ok(typed)
 }
 
 /// What an expression does, and its type where it has one.
 #[cycle(resolving)]
-pub fn resolve<'a>(alloc: Global, e: &'a Expr, names: &'a Names) -> Result<Typed<'a>, OutOfMemory>
+pub fn resolve<'a>(e: &'a Expr, names: &'a Names) -> Result<Typed<'a>, OutOfMemory>
     ensures ty { IfOk result (λ t. IsTypeOf names.now t.ty (expr_of e.now)) }
     ensures flat { IfOk result (λ t. is_place (expr_of e.now) ≡ true → is_flat t.ty ≡ true) }
     ensures means { IfOk result (λ t. IsNodeOf names.now t.node (expr_of e.now)) }
 {
     let Some(_first) = operand(Along::Operands, e) else {
-        return resolve_leaf(alloc, e, names);
+        return resolve_leaf(e, names);
     };
     let lowest = follow(Along::Operands, e);
     if lowest.count < LIMIT {
-        let end = resolve_leaf(alloc, lowest.end, names)?;
-        rise(alloc, e, lowest.count, end, names)
+        let end = resolve_leaf(lowest.end, names)?;
+        rise(e, lowest.count, end, names)
     } else {
-        let end = resolve(alloc, lowest.end, names)?;
-        rise(alloc, e, lowest.count, end, names)
+        let end = resolve(lowest.end, names)?;
+        rise(e, lowest.count, end, names)
     }
 }

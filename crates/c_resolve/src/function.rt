@@ -5,7 +5,7 @@ ghost use Rattle.c_tree.specs.Declarators.{parameter_shape};
 ghost use Rattle.c_tree.specs.View.{fun_of, param_of, stmts_of};
 ghost use Rattle.c_layout.specs.Frames.{frame_of};
 ghost use Rattle.c_layout.specs.LayoutAnswers.{planned_of};
-ghost use Rattle.c_resolve.specs.private.Acted.{IsKept, AreNames, IsRoutineOf, parameters_at};
+ghost use Rattle.c_resolve.specs.private.Acted.{IsKept, IsSame, AreNames, IsRoutineOf, parameters_at};
 ghost use Rattle.c_semantics.specs.Meaning.{main_name, parameter_locals, with_parameter, with_parameters};
 
 use crate::kinds::{held_of, size};
@@ -31,12 +31,7 @@ pub(super) fn is_main(name: &Name) -> bool
 }
 
 /// Declares a parameter, where it has a name.
-fn declare_param(
-    alloc: Global,
-    p: &Param,
-    places: &[u32],
-    names: &mut Names,
-) -> Result<(), OutOfMemory>
+fn declare_param(p: &Param, places: &[u32], names: &mut Names) -> Result<(), OutOfMemory>
     ensures names { OnOk result
         (AreNames names.old names.new
         (with_parameter places.now (parameter_shape (param_of p.now)) p.now.name)) }
@@ -48,26 +43,21 @@ fn declare_param(
     match &p.name {
         None => Ok(()),
         Some(name) => {
-            let ty = parameter_type(alloc, p)?;
+            let ty = parameter_type(names.alloc, p)?;
             names.declare(name, Named::Variable(ty, Home::InFrame(*place)))
         }
     }
 }
 
 /// Declares parameters.
-fn declare_params(
-    alloc: Global,
-    params: &[Param],
-    places: &[u32],
-    names: &mut Names,
-) -> Result<(), OutOfMemory>
+fn declare_params(params: &[Param], places: &[u32], names: &mut Names) -> Result<(), OutOfMemory>
     ensures names { OnOk result
         (AreNames names.old names.new (with_parameters places.now (map param_of params.now))) }
     ensures kept { OnOk result (IsKept names.old names.new) }
 {
     let mut rest = places;
     for p in params {
-        declare_param(alloc, p, rest, names)?;
+        declare_param(p, rest, names)?;
         rest = past(rest, 1);
     }
     Ok(())
@@ -109,7 +99,6 @@ fn push_params(
 
 /// A function that the text defines, in its frame. The names are those of the text.
 pub(super) fn resolve_fun(
-    alloc: Global,
     f: &Fun,
     body: &[Stmt],
     frame: &Frame,
@@ -117,20 +106,20 @@ pub(super) fn resolve_fun(
 ) -> Result<Routine, OutOfMemory>
     requires { planned_of frame.now
         ≡ frame_of (map param_of f.now.params.items) (stmts_of body.now) }
-    ensures same { OnOk result (names.new.entries.items ≡ names.old.entries.items) }
+    ensures same { OnOk result (IsSame names.old names.new) }
     ensures means { IfOk result
         (λ routine. IsRoutineOf names.old routine (fun_of f.now) (stmts_of body.now)) }
 {
     let places = frame.places.as_slice();
-    let mut parameters = Vec::new(alloc);
-    let mut locals = Vec::new(alloc);
-    push_params(alloc, &f.params, places, &mut parameters, &mut locals)?;
-    let outer = names.len();
-    declare_params(alloc, &f.params, places, names)?;
-    let gives = pointer_to(alloc, &f.base, f.stars)?;
+    let mut parameters = Vec::new(names.alloc);
+    let mut locals = Vec::new(names.alloc);
+    push_params(names.alloc, &f.params, places, &mut parameters, &mut locals)?;
+    names.enter()?;
+    declare_params(&f.params, places, names)?;
+    let gives = pointer_to(names.alloc, &f.base, f.stars)?;
     let own = past(places, f.params.len());
-    let block = resolve_body(alloc, body, own, &gives, names)?;
-    names.leave(outer);
+    let block = resolve_body(body, own, &gives, names)?;
+    names.leave();
     locals.extend_from_slice(&block.locals)?;
     Ok(Routine {
         frame: frame.size,

@@ -4,11 +4,11 @@ ghost use Rattle.std.specs.Prelude.{◌≡◌, IfOk};
 ghost use Rattle.c_tree.specs.View.{ty_of};
 ghost use Rattle.c_layout.specs.Sizes.{size};
 ghost use Rattle.c_semantics.specs.Names.{held, held_by, operand_of, operand_by};
-ghost use Rattle.c_types.specs.Seen.{seen, seen_some};
+ghost use Rattle.c_rules.specs.Seen.{seen, seen_some};
 
+use c_rules::{Base, Seen};
 use c_semantics::{Held, Operand};
 use c_tree::{CType, OutOfMemory};
-use c_types::{Base, Seen};
 
 /// What an object of a type holds.
 pub fn held_of(ty: &CType) -> Held

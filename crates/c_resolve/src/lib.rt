@@ -22,5 +22,5 @@ pub use action::{Action, Beginning, Begun, Passed};
 pub use kinds::size;
 pub use node::{Node, NodeKind, Target};
 pub use places::past;
-pub use routine::{Parameter, Routine};
-pub use text::{global_addresses, main_number, resolve_text};
+pub use routine::{Parameter, Routine, Routines};
+pub use text::{global_addresses, resolve_text};

@@ -3,7 +3,7 @@
 ghost use Rattle.std.specs.Prelude.{◌≡◌, ◌++◌, ◌∷◌, [], ℕ, List, Some, None, map, bytes_eq, if◌then◌else◌, IfOk, OnOk};
 ghost use Rattle.c_tree.specs.Item.{Item as PureItem};
 ghost use Rattle.c_tree.specs.View.{item_of};
-ghost use Rattle.c_resolve.specs.Entries.{indexed_at};
+ghost use Rattle.c_resolve.specs.DeclaredNames.{indexed_at};
 ghost use Rattle.c_semantics.specs.Names.{Definition};
 ghost use Rattle.c_resolve.specs.Routines.{definitions_of, or_number, AreNumbersOf};
 

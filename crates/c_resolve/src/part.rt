@@ -1,35 +1,33 @@
 //! Nodes over operands that are resolved.
 
-ghost use Rattle.std.specs.Prelude.{◌≡◌, ℕ, List, true, Some, IfOk};
+ghost use Rattle.std.specs.Prelude.{◌≡◌, true, Some, IfOk};
 ghost use Rattle.c_tree.specs.declared.operator.Binary.TheVariants.{Plus};
 ghost use Rattle.c_tree.specs.Rules.{is_at, where_right, binary_rule, conditional_rule, assign_rule, index_rule, step_rule, cast_rule};
 ghost use Rattle.c_tree.specs.Typing.{one, both, unary_type, is_test};
 ghost use Rattle.c_tree.specs.View.{ty_of};
-ghost use Rattle.c_types.specs.Seen.{seen_some, is_flat};
-ghost use Rattle.c_semantics.specs.Eval.{Calls, binary_run, unary_run, stepped, assign_run, conditional_run, strict};
-ghost use Rattle.c_semantics.specs.Names.{Definition, held, held_by, operand_by};
+ghost use Rattle.c_rules.specs.Seen.{seen_some, is_flat};
+ghost use Rattle.c_semantics.specs.Eval.{binary_run, unary_run, stepped, assign_run, conditional_run, strict};
+ghost use Rattle.c_semantics.specs.Names.{held, held_by, operand_by};
 ghost use Rattle.c_resolve.specs.Nodes.{runs, placed, valued, constant, name_run, name_address, pointer, cast_run};
-ghost use Rattle.c_resolve.specs.private.Resolved.{loaded};
+ghost use Rattle.c_resolve.specs.private.Resolved.{loaded, NodeDoes};
 
 use crate::kinds::{held_by, held_of, operand_by};
 use crate::node::{Node, NodeKind};
 use crate::typed::Typed;
+use c_rules::{PartRule, Rule, Seen, index_result};
 use c_semantics::Home;
 use c_tree::{Binary, CType, OutOfMemory, Place, Step, Unary};
-use c_types::{PartRule, Rule, Seen, address_of, index_result, is_test, where_right};
+use c_types::{address_of, is_test, where_right};
 use std::alloc::Global;
 
 /// A value that the text gives.
 pub(super) fn build_constant<'a>(value: u32, ty: Seen<'a>, at: Place) -> Typed<'a>
     ensures ty { seen_some result.ty ≡ seen_some (Some ty.entry) }
-    ensures means { (definitions : List Definition) → (input : List ℕ) → (calls : Calls)
-        → runs definitions input calls result.node ≡ valued (constant value) at }
+    ensures means { NodeDoes result.node (λ context. valued (constant value) at) }
 {
+    let kind = NodeKind::Constant(value);
     Typed {
-        node: Node {
-            kind: NodeKind::Constant(value),
-            place: at,
-        },
+        node: Node { kind, place: at },
         ty: Some(ty),
     }
 }
@@ -39,17 +37,11 @@ pub(super) fn build_constant<'a>(value: u32, ty: Seen<'a>, at: Place) -> Typed<'
 pub(super) fn build_name<'a>(home: Home, ty: Option<Seen<'a>>, at: Place) -> Typed<'a>
     ensures ty { seen_some result.ty ≡ seen_some ty.entry }
     ensures flat { is_flat result.ty ≡ is_flat ty.entry }
-    ensures means { (definitions : List Definition) → (input : List ℕ) → (calls : Calls) →
-        runs definitions input calls result.node
-        ≡ placed (name_run home (held_by (seen_some ty.entry)) at) (name_address home) at }
+    ensures means { NodeDoes result.node (λ context. placed (name_run home (held_by (seen_some ty.entry)) at) (name_address home) at) }
 {
-    Typed {
-        node: Node {
-            kind: NodeKind::Name(home, held_by(ty)),
-            place: at,
-        },
-        ty,
-    }
+    let kind = NodeKind::Name(home, held_by(ty));
+    let node = Node { kind, place: at };
+    Typed { node, ty }
 }
 
 fn unary_type<'a>(op: Unary, of_place: bool, ty: Option<Seen<'a>>) -> Option<Seen<'a>>
@@ -80,18 +72,14 @@ pub(super) fn build_unary<'a>(
     ensures ty { IfOk result (λ t. seen_some t.ty ≡ unary_type op of_place (seen_some a.entry.ty)) }
     ensures flat { IfOk result (λ t. is_at op ≡ true → is_flat t.ty ≡ true) }
     ensures means { IfOk result
-        (λ t. (definitions : List Definition) → (input : List ℕ) → (calls : Calls) →
-        let r = runs definitions input calls a.entry.node in
-        runs definitions input calls t.node
-        ≡ placed (unary_run op (operand_by (seen_some a.entry.ty))
-        (held_by (seen_some t.ty)) at r.value r.address) (pointer r.value) at) }
+        (λ t. NodeDoes t.node (λ context. let r = runs context a.entry.node in
+        placed (unary_run op (operand_by (seen_some a.entry.ty))
+        (held_by (seen_some t.ty)) at r.value r.address) (pointer r.value) at)) }
 {
     let ty = unary_type(op, of_place, a.ty);
     let kind = NodeKind::Unary(op, operand_by(a.ty)?, held_by(ty), Box::new(alloc, a.node)?);
-    Ok(Typed {
-        node: Node { kind, place: at },
-        ty,
-    })
+    let node = Node { kind, place: at };
+    Ok(Typed { node, ty })
 }
 
 /// `++` or `--`.
@@ -106,11 +94,9 @@ pub(super) fn build_step<'a>(
     ensures ty { IfOk result
         (λ t. seen_some t.ty ≡ where_right of_place (one step_rule (seen_some a.entry.ty))) }
     ensures means { IfOk result
-        (λ t. (definitions : List Definition) → (input : List ℕ) → (calls : Calls) →
-        let r = runs definitions input calls a.entry.node in
-        runs definitions input calls t.node
-        ≡ valued (stepped how (operand_by (seen_some a.entry.ty))
-        (held_by (seen_some a.entry.ty)) r.place at r.address) at) }
+        (λ t. NodeDoes t.node (λ context. let r = runs context a.entry.node in
+        valued (stepped how (operand_by (seen_some a.entry.ty))
+        (held_by (seen_some a.entry.ty)) r.place at r.address) at)) }
 {
     let ty = where_right(of_place, PartRule::Step.one(a.ty));
     let kind = NodeKind::Step(
@@ -119,10 +105,8 @@ pub(super) fn build_step<'a>(
         held_by(a.ty),
         Box::new(alloc, a.node)?,
     );
-    Ok(Typed {
-        node: Node { kind, place: at },
-        ty,
-    })
+    let node = Node { kind, place: at };
+    Ok(Typed { node, ty })
 }
 
 /// A cast.
@@ -136,17 +120,13 @@ pub(super) fn build_cast<'a>(
     ensures ty { IfOk result
         (λ t. seen_some t.ty ≡ one (cast_rule (ty_of to.now)) (seen_some a.entry.ty)) }
     ensures means { IfOk result
-        (λ t. (definitions : List Definition) → (input : List ℕ) → (calls : Calls) →
-        runs definitions input calls t.node
-        ≡ valued (cast_run (held (ty_of to.now))
-        (runs definitions input calls a.entry.node).value) at) }
+        (λ t. NodeDoes t.node (λ context. valued (cast_run (held (ty_of to.now))
+        (runs context a.entry.node).value) at)) }
 {
     let ty = PartRule::Cast(to).one(a.ty);
     let kind = NodeKind::Cast(held_of(to), Box::new(alloc, a.node)?);
-    Ok(Typed {
-        node: Node { kind, place: at },
-        ty,
-    })
+    let node = Node { kind, place: at };
+    Ok(Typed { node, ty })
 }
 
 /// An operator between two operands, and which of them are the literal 0.
@@ -163,12 +143,10 @@ pub(super) fn build_binary<'a>(
         (λ t. seen_some t.ty ≡ both (binary_rule op noughts.0 noughts.1) (seen_some a.entry.ty)
         (seen_some b.entry.ty)) }
     ensures means { IfOk result
-        (λ t. (definitions : List Definition) → (input : List ℕ) → (calls : Calls) →
-        runs definitions input calls t.node
-        ≡ valued (binary_run op (operand_by (seen_some a.entry.ty))
+        (λ t. NodeDoes t.node (λ context. valued (binary_run op (operand_by (seen_some a.entry.ty))
         (operand_by (seen_some b.entry.ty)) at
-        (runs definitions input calls a.entry.node).value
-        (runs definitions input calls b.entry.node).value) at) }
+        (runs context a.entry.node).value
+        (runs context b.entry.node).value) at)) }
 {
     let ty = Rule::Binary(op, noughts.0, noughts.1).both(a.ty, b.ty);
     let kind = NodeKind::Binary(
@@ -178,10 +156,8 @@ pub(super) fn build_binary<'a>(
         Box::new(alloc, a.node)?,
         Box::new(alloc, b.node)?,
     );
-    Ok(Typed {
-        node: Node { kind, place: at },
-        ty,
-    })
+    let node = Node { kind, place: at };
+    Ok(Typed { node, ty })
 }
 
 /// `?:`, and which of its last two operands are the literal 0.
@@ -199,11 +175,9 @@ pub(super) fn build_conditional<'a>(
         (both (conditional_rule noughts.0 noughts.1) (seen_some a.entry.ty)
         (seen_some b.entry.ty))) }
     ensures means { IfOk result
-        (λ t. (definitions : List Definition) → (input : List ℕ) → (calls : Calls) →
-        runs definitions input calls t.node
-        ≡ valued (conditional_run (runs definitions input calls c.entry.node).value
-        (runs definitions input calls a.entry.node).value
-        (runs definitions input calls b.entry.node).value) at) }
+        (λ t. NodeDoes t.node (λ context. valued (conditional_run (runs context c.entry.node).value
+        (runs context a.entry.node).value
+        (runs context b.entry.node).value) at)) }
 {
     let value = Rule::Conditional(noughts.0, noughts.1).both(a.ty, b.ty);
     let ty = where_right(is_test(c.ty), value);
@@ -212,10 +186,8 @@ pub(super) fn build_conditional<'a>(
         Box::new(alloc, a.node)?,
         Box::new(alloc, b.node)?,
     );
-    Ok(Typed {
-        node: Node { kind, place: at },
-        ty,
-    })
+    let node = Node { kind, place: at };
+    Ok(Typed { node, ty })
 }
 
 /// An assignment, and whether its right side is the literal 0.
@@ -232,13 +204,11 @@ pub(super) fn build_assign<'a>(
         (λ t. seen_some t.ty ≡ where_right to_place
         (both (assign_rule rule.0 rule.1) (seen_some a.entry.ty) (seen_some b.entry.ty))) }
     ensures means { IfOk result
-        (λ t. (definitions : List Definition) → (input : List ℕ) → (calls : Calls) →
-        let r = runs definitions input calls a.entry.node in
-        runs definitions input calls t.node
-        ≡ valued (assign_run rule.0 (operand_by (seen_some a.entry.ty))
+        (λ t. NodeDoes t.node (λ context. let r = runs context a.entry.node in
+        valued (assign_run rule.0 (operand_by (seen_some a.entry.ty))
         (operand_by (seen_some b.entry.ty))
         (held_by (seen_some a.entry.ty)) r.place at r.address
-        (runs definitions input calls b.entry.node).value) at) }
+        (runs context b.entry.node).value) at)) }
 {
     let value = Rule::Assign(rule.0, rule.1).both(a.ty, b.ty);
     let ty = where_right(to_place, value);
@@ -250,10 +220,8 @@ pub(super) fn build_assign<'a>(
         Box::new(alloc, a.node)?,
         Box::new(alloc, b.node)?,
     );
-    Ok(Typed {
-        node: Node { kind, place: at },
-        ty,
-    })
+    let node = Node { kind, place: at };
+    Ok(Typed { node, ty })
 }
 
 fn index_type<'a>(a: Option<Seen<'a>>, b: Option<Seen<'a>>) -> Option<Seen<'a>>
@@ -278,13 +246,11 @@ pub(super) fn build_index<'a>(
         (λ t. seen_some t.ty ≡ both index_rule (seen_some a.entry.ty) (seen_some b.entry.ty)) }
     ensures flat { IfOk result (λ t. is_flat t.ty ≡ true) }
     ensures means { IfOk result
-        (λ t. (definitions : List Definition) → (input : List ℕ) → (calls : Calls) →
-        let sum = strict Plus (operand_by (seen_some a.entry.ty))
+        (λ t. NodeDoes t.node (λ context. let sum = strict Plus (operand_by (seen_some a.entry.ty))
         (operand_by (seen_some b.entry.ty)) at
-        (runs definitions input calls a.entry.node).value
-        (runs definitions input calls b.entry.node).value in
-        runs definitions input calls t.node
-        ≡ placed (loaded (held_by (seen_some t.ty)) at sum) sum at) }
+        (runs context a.entry.node).value
+        (runs context b.entry.node).value in
+        placed (loaded (held_by (seen_some t.ty)) at sum) sum at)) }
 {
     let ty = index_type(a.ty, b.ty);
     let kind = NodeKind::Index(
@@ -294,8 +260,6 @@ pub(super) fn build_index<'a>(
         Box::new(alloc, a.node)?,
         Box::new(alloc, b.node)?,
     );
-    Ok(Typed {
-        node: Node { kind, place: at },
-        ty,
-    })
+    let node = Node { kind, place: at };
+    Ok(Typed { node, ty })
 }

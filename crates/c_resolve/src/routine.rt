@@ -24,3 +24,10 @@ pub struct Routine {
     /// Whether it is `main`, whose end gives 0.
     pub is_main: bool,
 }
+
+/// The functions that a text defines, in its order, and the number of `main`, where it is one of them.
+#[derive(Debug, Drop)]
+pub struct Routines {
+    pub all: Vec<Routine>,
+    pub main: Option<u32>,
+}

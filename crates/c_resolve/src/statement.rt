@@ -1,21 +1,17 @@
 //! Statements.
 
-ghost use Rattle.std.specs.Prelude.{◌≡◌, ◌++◌, ℕ, List, drop, length, map, option_map, IfOk, OnOk};
+ghost use Rattle.std.specs.Prelude.{◌≡◌, ℕ, [], List, drop, length, map, option_map, IfOk, OnOk};
 ghost use Rattle.c_tree.specs.declared.place.Place.{Place as At};
 ghost use Rattle.c_tree.specs.Stmt as stmt;
 ghost use Rattle.c_tree.specs.View.{expr_of, var_of, first_of, ty_of, boxed_stmt_of, else_of, stmt_of, stmts_of};
 ghost use Rattle.c_layout.specs.Frames.{else_locals, body_locals};
-ghost use Rattle.c_resolve.specs.private.Acted.{IsKept, AreNames, IsActionOf};
-ghost use Rattle.c_resolve.specs.Actions.{action_run, boxed_run, first_run, body_run, if_run, else_run, step_run, test_run, value_run};
-ghost use Rattle.c_semantics.specs.Eval.{Calls};
-ghost use Rattle.c_semantics.specs.Exec.{begin, beginning_own, behind, block_locals, exec_else, exec_all, named_beginning, named_behind, statement_locals, step as step_of, test as test_of, with_locals_named};
-ghost use Rattle.c_semantics.specs.Names.{Definition};
-ghost use Rattle.c_resolve.specs.private.Resolved.{names_in};
+ghost use Rattle.c_resolve.specs.private.Acted.{IsKept, IsSame, AreNames, ActionDoes, IsActionOf, IsBeginningOf, IsTestOf, IsStepOf, IsElseOf, AreActionsOf};
+ghost use Rattle.c_resolve.specs.Actions.{action_run, boxed_run, if_run, else_run, value_run};
+ghost use Rattle.c_semantics.specs.Exec.{beginning_own, behind, block_locals, declared_locals, named_beginning, named_behind, statement_locals, with_locals_named};
+ghost use Rattle.c_resolve.specs.private.Resolved.{IsNodeOf};
 
 use crate::action::{Action, Beginning};
-use crate::declaration::{
-    first_count, has_init, push_first_locals, push_locals, resolve_first, resolve_vars,
-};
+use crate::declaration::{first_count, has_init, resolve_first, resolve_vars};
 use crate::expression::resolve;
 use crate::kinds::held_of;
 use crate::names::Names;
@@ -25,21 +21,30 @@ use c_semantics::Local;
 use c_tree::{CType, Expr, First, OutOfMemory, Stmt, StmtKind, Var};
 use std::alloc::Global;
 
-/// What a statement does, and the offsets behind it.
+/// What a statement does, the objects that it declares itself, and the offsets after it.
 #[derive(Debug, Drop)]
 pub(super) struct Acted<'a> {
     action: Action,
+    own: Vec<Local>,
     rest: &'a [u32],
 }
 
-/// What the branch of an `if` does that may be left out, and the offsets behind it.
+/// What the branch of an `if` does that may be left out, and the offsets after it.
 #[derive(Debug, Drop)]
 struct ElseBranch<'a> {
     action: Option<Box<Action>>,
     rest: &'a [u32],
 }
 
-/// What a block's statements do, its own locals, and the offsets behind it.
+/// The test and the body of a loop, and the offsets after it.
+#[derive(Debug, Drop)]
+struct Turn<'a> {
+    test: Node,
+    body: Box<Action>,
+    rest: &'a [u32],
+}
+
+/// What a block's statements do, its own locals, and the offsets after it.
 #[derive(Debug, Drop)]
 pub(super) struct Body<'a> {
     pub(super) locals: Vec<Local>,
@@ -48,39 +53,42 @@ pub(super) struct Body<'a> {
 }
 
 /// An expression whose value isn't used.
-fn resolve_expr_stmt(alloc: Global, e: &Expr, names: &Names) -> Result<Action, OutOfMemory>
+fn resolve_expr_stmt(e: &Expr, names: &Names) -> Result<Action, OutOfMemory>
     ensures { IfOk result (λ action. (places : List ℕ) → (gives : CType) → (at : At)
         → IsActionOf names.now places (ty_of gives) action (stmt.Expr (expr_of e.now) at)) }
 {
-    Ok(Action::Expr(resolve(alloc, e, names)?.node))
+    Ok(Action::Expr(resolve(e, names)?.node))
 }
 
 /// A declaration, whose names are then in scope.
-fn resolve_vars_stmt(
-    alloc: Global,
+fn resolve_vars_stmt<'a>(
     vars: &[Var],
-    places: &[u32],
+    places: &'a [u32],
     names: &mut Names,
-) -> Result<Action, OutOfMemory>
+) -> Result<Acted<'a>, OutOfMemory>
     ensures names { OnOk result
         (AreNames names.old names.new (with_locals_named places.now (map var_of vars.now))) }
     ensures kept { OnOk result (IsKept names.old names.new) }
+    ensures own { IfOk result
+        (λ acted. acted.own.items ≡ declared_locals places.now (map var_of vars.now)) }
+    ensures rest { IfOk result
+        (λ acted. acted.rest.now ≡ drop (length (map var_of vars.now)) places.now) }
     ensures means { IfOk result
-        (λ action. (gives : CType) → (at : At)
-        → IsActionOf names.old places.now (ty_of gives) action
+        (λ acted. (gives : CType) → (at : At)
+        → IsActionOf names.old places.now (ty_of gives) acted.action
         (stmt.Vars (map var_of vars.now) at)) }
 {
     let counted = has_init(vars);
-    Ok(Action::Vars(counted, resolve_vars(alloc, vars, places, names)?))
+    let declared = resolve_vars(vars, places, names)?;
+    Ok(Acted {
+        action: Action::Vars(counted, declared.passed),
+        own: declared.own,
+        rest: past(places, vars.len()),
+    })
 }
 
 /// A `return`, in a function that gives a type.
-fn resolve_return(
-    alloc: Global,
-    value: &Option<Expr>,
-    gives: &CType,
-    names: &Names,
-) -> Result<Action, OutOfMemory>
+fn resolve_return(value: &Option<Expr>, gives: &CType, names: &Names) -> Result<Action, OutOfMemory>
     ensures { IfOk result (λ action. (places : List ℕ) → (at : At)
         → IsActionOf names.now places (ty_of gives.now) action
         (stmt.Return (option_map expr_of value.now) at)) }
@@ -88,55 +96,20 @@ fn resolve_return(
     let holds = held_of(gives);
     match value {
         None => Ok(Action::Return(holds, None)),
-        Some(e) => Ok(Action::Return(holds, Some(resolve(alloc, e, names)?.node))),
+        Some(e) => Ok(Action::Return(holds, Some(resolve(e, names)?.node))),
     }
 }
 
 /// An expression that may be left out.
-fn resolve_optional(
-    alloc: Global,
-    e: &Option<Expr>,
-    names: &Names,
-) -> Result<Option<Node>, OutOfMemory>
+fn resolve_optional(e: &Option<Expr>, names: &Names) -> Result<Option<Node>, OutOfMemory>
     ensures test { IfOk result
-        (λ node. (definitions : List Definition) → (input : List ℕ) → (calls : Calls) →
-        test_run definitions input calls node
-        ≡ test_of input calls (names_in definitions names.now) (option_map expr_of e.now)) }
+        (λ node. IsTestOf names.now node (option_map expr_of e.now)) }
     ensures step { IfOk result
-        (λ node. (definitions : List Definition) → (input : List ℕ) → (calls : Calls) →
-        step_run definitions input calls node
-        ≡ step_of input calls (names_in definitions names.now) (option_map expr_of e.now)) }
+        (λ node. IsStepOf names.now node (option_map expr_of e.now)) }
 {
     match e {
         None => Ok(None),
-        Some(e) => Ok(Some(resolve(alloc, e, names)?.node)),
-    }
-}
-
-/// A statement's own objects.
-#[tactic(auto, using(c_tree::proofs::ViewLemmas::views))]
-fn push_stmt_locals(
-    alloc: Global,
-    s: &Stmt,
-    places: &[u32],
-    out: &mut Vec<Local>,
-) -> Result<(), OutOfMemory>
-    ensures { OnOk result (out.new.items
-        ≡ out.old.items ++ statement_locals places.now (stmt_of s.now)) }
-{
-    match &s.kind {
-        StmtKind::Empty => Ok(()),
-        StmtKind::Expr(_) => Ok(()),
-        StmtKind::Vars(vars) => push_locals(alloc, vars, places, out),
-        StmtKind::Block(_) => Ok(()),
-        StmtKind::Marker(_) => Ok(()),
-        StmtKind::If(_, _, _) => Ok(()),
-        StmtKind::While(_, _) => Ok(()),
-        StmtKind::Do(_, _) => Ok(()),
-        StmtKind::For(_, _, _, _) => Ok(()),
-        StmtKind::Return(_) => Ok(()),
-        StmtKind::Break => Ok(()),
-        StmtKind::Continue => Ok(()),
+        Some(e) => Ok(Some(resolve(e, names)?.node)),
     }
 }
 
@@ -151,7 +124,6 @@ struct Head {
 
 /// The head of a `for`, whose names are then in scope.
 fn resolve_for_head(
-    alloc: Global,
     first: &First,
     test: &Option<Expr>,
     step: &Option<Expr>,
@@ -164,25 +136,18 @@ fn resolve_for_head(
     ensures own { IfOk result
         (λ head. head.own.items ≡ beginning_own places.now (first_of first.now)) }
     ensures begins { IfOk result
-        (λ head. (definitions : List Definition) → (input : List ℕ) → (calls : Calls) →
-        first_run definitions input calls head.begins
-        ≡ begin input calls (names_in definitions names.old) places.now (first_of first.now)) }
+        (λ head. IsBeginningOf names.old places.now head.begins (first_of first.now)) }
     ensures test { IfOk result
-        (λ head. (definitions : List Definition) → (input : List ℕ) → (calls : Calls) →
-        test_run definitions input calls head.test
-        ≡ test_of input calls (names_in definitions names.new) (option_map expr_of test.now)) }
+        (λ head. IsTestOf names.new head.test (option_map expr_of test.now)) }
     ensures step { IfOk result
-        (λ head. (definitions : List Definition) → (input : List ℕ) → (calls : Calls) →
-        step_run definitions input calls head.step
-        ≡ step_of input calls (names_in definitions names.new) (option_map expr_of step.now)) }
+        (λ head. IsStepOf names.new head.step (option_map expr_of step.now)) }
 {
-    let mut own = Vec::new(alloc);
-    push_first_locals(alloc, first, places, &mut own)?;
+    let begins = resolve_first(first, places, names)?;
     Ok(Head {
-        own,
-        begins: resolve_first(alloc, first, places, names)?,
-        test: resolve_optional(alloc, test, names)?,
-        step: resolve_optional(alloc, step, names)?,
+        own: begins.own,
+        begins: begins.beginning,
+        test: resolve_optional(test, names)?,
+        step: resolve_optional(step, names)?,
     })
 }
 
@@ -194,53 +159,46 @@ fn build_if(
     body: Action,
     other: Option<Box<Action>>,
 ) -> Result<Action, OutOfMemory>
-    ensures { IfOk result (λ action. (definitions : List Definition) → (input : List ℕ)
-        → (calls : Calls) →
-        action_run definitions input calls action
-        ≡ if_run (value_run definitions input calls test)
-        (action_run definitions input calls body)
-        (else_run (boxed_run definitions input calls) other)) }
+    ensures { IfOk result (λ action. ActionDoes action (λ context.
+        if_run (value_run context test) (action_run context body)
+        (else_run (boxed_run context) other))) }
 {
     let body = Box::new(alloc, body)?;
     Ok(Action::If(test, body, other))
 }
 
-/// A statement whose names are out of scope behind it.
+/// A statement whose names are out of scope after it.
 #[cycle(statement)]
 fn resolve_inner<'a>(
-    alloc: Global,
     s: &Stmt,
     places: &'a [u32],
     gives: &CType,
     names: &mut Names,
 ) -> Result<Acted<'a>, OutOfMemory>
-    ensures same { OnOk result (names.new.entries.items ≡ names.old.entries.items) }
+    ensures same { OnOk result (IsSame names.old names.new) }
     ensures rest { IfOk result (λ acted. acted.rest.now ≡ behind (stmt_of s.now) places.now) }
     ensures means { IfOk result
         (λ acted. IsActionOf names.old places.now (ty_of gives.now) acted.action (stmt_of s.now)) }
 {
-    let outer = names.len();
-    let acted = resolve_stmt(alloc, s, places, gives, names)?;
-    names.leave(outer);
+    names.enter()?;
+    let acted = resolve_stmt(s, places, gives, names)?;
+    names.leave();
     Ok(acted)
 }
 
 /// The branch of an `if` that may be left out.
 #[cycle(statement)]
 fn resolve_else<'a>(
-    alloc: Global,
     other: &Option<Box<Stmt>>,
     places: &'a [u32],
     gives: &CType,
     names: &mut Names,
 ) -> Result<ElseBranch<'a>, OutOfMemory>
-    ensures same { OnOk result (names.new.entries.items ≡ names.old.entries.items) }
+    ensures same { OnOk result (IsSame names.old names.new) }
     ensures rest { IfOk result (λ branch. branch.rest.now
         ≡ drop (length (else_locals (else_of boxed_stmt_of other.now))) places.now) }
     ensures means { IfOk result
-        (λ branch. (definitions : List Definition) → (input : List ℕ) → (calls : Calls) →
-        else_run (boxed_run definitions input calls) branch.action
-        ≡ exec_else input calls (ty_of gives.now) (names_in definitions names.old) places.now
+        (λ branch. IsElseOf names.old places.now (ty_of gives.now) branch.action
         (else_of boxed_stmt_of other.now)) }
 {
     match other {
@@ -249,8 +207,8 @@ fn resolve_else<'a>(
             rest: places,
         }),
         Some(other) => {
-            let acted = resolve_inner(alloc, other, places, gives, names)?;
-            let action = Box::new(alloc, acted.action)?;
+            let acted = resolve_inner(other, places, gives, names)?;
+            let action = Box::new(names.alloc, acted.action)?;
             Ok(ElseBranch {
                 action: Some(action),
                 rest: acted.rest,
@@ -259,60 +217,32 @@ fn resolve_else<'a>(
     }
 }
 
-/// A `while`.
+/// The test and the body of a loop, in whichever order it has them.
 #[cycle(statement)]
-fn resolve_while<'a>(
-    alloc: Global,
+fn resolve_turn<'a>(
     body: &Stmt,
     test: &Expr,
     places: &'a [u32],
     gives: &CType,
     names: &mut Names,
-) -> Result<Acted<'a>, OutOfMemory>
-    ensures same { OnOk result (names.new.entries.items ≡ names.old.entries.items) }
-    ensures rest { IfOk result (λ acted. acted.rest.now ≡ behind (stmt_of body.now) places.now) }
-    ensures means { (at : At)
-        → IfOk result (λ acted. IsActionOf names.old places.now (ty_of gives.now) acted.action
-        (stmt.While (expr_of test.now) (stmt_of body.now) at)) }
+) -> Result<Turn<'a>, OutOfMemory>
+    ensures same { OnOk result (IsSame names.old names.new) }
+    ensures rest { IfOk result (λ turn. turn.rest.now ≡ behind (stmt_of body.now) places.now) }
+    ensures test { IfOk result (λ turn. IsNodeOf names.old turn.test (expr_of test.now)) }
+    ensures body { IfOk result
+        (λ turn. IsActionOf names.old places.now (ty_of gives.now) turn.body.value
+        (stmt_of body.now)) }
 {
-    let test = resolve(alloc, test, names)?.node;
-    let acted = resolve_inner(alloc, body, places, gives, names)?;
-    let body = Box::new(alloc, acted.action)?;
-    Ok(Acted {
-        action: Action::While(test, body),
-        rest: acted.rest,
-    })
+    let test = resolve(test, names)?.node;
+    let acted = resolve_inner(body, places, gives, names)?;
+    let body = Box::new(names.alloc, acted.action)?;
+    let rest = acted.rest;
+    Ok(Turn { test, body, rest })
 }
 
-/// A `do`.
-#[cycle(statement)]
-fn resolve_do<'a>(
-    alloc: Global,
-    body: &Stmt,
-    test: &Expr,
-    places: &'a [u32],
-    gives: &CType,
-    names: &mut Names,
-) -> Result<Acted<'a>, OutOfMemory>
-    ensures same { OnOk result (names.new.entries.items ≡ names.old.entries.items) }
-    ensures rest { IfOk result (λ acted. acted.rest.now ≡ behind (stmt_of body.now) places.now) }
-    ensures means { (at : At)
-        → IfOk result (λ acted. IsActionOf names.old places.now (ty_of gives.now) acted.action
-        (stmt.Do (stmt_of body.now) (expr_of test.now) at)) }
-{
-    let test = resolve(alloc, test, names)?.node;
-    let acted = resolve_inner(alloc, body, places, gives, names)?;
-    let body = Box::new(alloc, acted.action)?;
-    Ok(Acted {
-        action: Action::Do(body, test),
-        rest: acted.rest,
-    })
-}
-
-/// A `for`, whose names are out of scope behind it.
+/// A `for`, whose names are out of scope after it.
 #[cycle(statement)]
 fn resolve_for<'a>(
-    alloc: Global,
     first: &First,
     test: &Option<Expr>,
     step: &Option<Expr>,
@@ -321,7 +251,8 @@ fn resolve_for<'a>(
     gives: &CType,
     names: &mut Names,
 ) -> Result<Acted<'a>, OutOfMemory>
-    ensures same { OnOk result (names.new.entries.items ≡ names.old.entries.items) }
+    ensures same { OnOk result (IsSame names.old names.new) }
+    ensures own { IfOk result (λ acted. acted.own.items ≡ []) }
     ensures rest { (at : At)
         → IfOk result (λ acted. acted.rest.now
         ≡ behind (stmt.For (first_of first.now) (option_map expr_of test.now)
@@ -331,39 +262,41 @@ fn resolve_for<'a>(
         (stmt.For (first_of first.now) (option_map expr_of test.now)
         (option_map expr_of step.now) (stmt_of body.now) at)) }
 {
-    let outer = names.len();
-    let head = resolve_for_head(alloc, first, test, step, places, names)?;
+    names.enter()?;
+    let head = resolve_for_head(first, test, step, places, names)?;
     let inner = past(places, first_count(first));
-    let acted = resolve_stmt(alloc, body, inner, gives, names)?;
-    names.leave(outer);
-    let body = Box::new(alloc, acted.action)?;
+    let acted = resolve_stmt(body, inner, gives, names)?;
+    names.leave();
+    let body = Box::new(names.alloc, acted.action)?;
     Ok(Acted {
         action: Action::For(head.own, head.begins, head.test, head.step, body),
+        own: Vec::new(names.alloc),
         rest: acted.rest,
     })
 }
 
-/// A block, whose names are out of scope behind it.
+/// A block, whose names are out of scope after it.
 #[cycle(statement)]
 fn resolve_block<'a>(
-    alloc: Global,
     body: &[Stmt],
     places: &'a [u32],
     gives: &CType,
     names: &mut Names,
 ) -> Result<Acted<'a>, OutOfMemory>
-    ensures same { OnOk result (names.new.entries.items ≡ names.old.entries.items) }
+    ensures same { OnOk result (IsSame names.old names.new) }
+    ensures own { IfOk result (λ acted. acted.own.items ≡ []) }
     ensures rest { IfOk result
         (λ acted. acted.rest.now ≡ drop (length (body_locals (stmts_of body.now))) places.now) }
     ensures means { (at : At)
         → IfOk result (λ acted. IsActionOf names.old places.now (ty_of gives.now) acted.action
         (stmt.Block (stmts_of body.now) at)) }
 {
-    let outer = names.len();
-    let body = resolve_body(alloc, body, places, gives, names)?;
-    names.leave(outer);
+    names.enter()?;
+    let body = resolve_body(body, places, gives, names)?;
+    names.leave();
     Ok(Acted {
         action: Action::Block(body.locals, body.actions),
+        own: Vec::new(names.alloc),
         rest: body.rest,
     })
 }
@@ -372,7 +305,6 @@ fn resolve_block<'a>(
 #[cycle(statement)]
 #[tactic(auto, using(c_tree::proofs::ViewLemmas::views))]
 fn resolve_stmt<'a>(
-    alloc: Global,
     s: &Stmt,
     places: &'a [u32],
     gives: &CType,
@@ -381,54 +313,63 @@ fn resolve_stmt<'a>(
     ensures names { OnOk result
         (AreNames names.old names.new (named_behind places.now (stmt_of s.now))) }
     ensures kept { OnOk result (IsKept names.old names.new) }
+    ensures own { IfOk result
+        (λ acted. acted.own.items ≡ statement_locals places.now (stmt_of s.now)) }
     ensures rest { IfOk result (λ acted. acted.rest.now ≡ behind (stmt_of s.now) places.now) }
     ensures means { IfOk result
         (λ acted. IsActionOf names.old places.now (ty_of gives.now) acted.action (stmt_of s.now)) }
 {
+    let own = Vec::new(names.alloc);
     let rest = places;
     match &s.kind {
         StmtKind::Empty => {
             let action = Action::Empty;
-            Ok(Acted { action, rest })
+            Ok(Acted { action, own, rest })
         }
         StmtKind::Expr(e) => {
-            let action = resolve_expr_stmt(alloc, e, names)?;
-            Ok(Acted { action, rest })
+            let action = resolve_expr_stmt(e, names)?;
+            Ok(Acted { action, own, rest })
         }
-        StmtKind::Vars(vars) => {
-            let action = resolve_vars_stmt(alloc, vars, places, names)?;
-            let rest = past(places, vars.len());
-            Ok(Acted { action, rest })
-        }
-        StmtKind::Block(body) => resolve_block(alloc, body, places, gives, names),
+        StmtKind::Vars(vars) => resolve_vars_stmt(vars, places, names),
+        StmtKind::Block(body) => resolve_block(body, places, gives, names),
         StmtKind::Marker(_) => {
             let action = Action::Empty;
-            Ok(Acted { action, rest })
+            Ok(Acted { action, own, rest })
         }
         StmtKind::If(test, then, other) => {
-            let test = resolve(alloc, test, names)?.node;
-            let yes = resolve_inner(alloc, then, places, gives, names)?;
-            let no = resolve_else(alloc, other, yes.rest, gives, names)?;
-            let action = build_if(alloc, test, yes.action, no.action)?;
+            let test = resolve(test, names)?.node;
+            let yes = resolve_inner(then, places, gives, names)?;
+            let no = resolve_else(other, yes.rest, gives, names)?;
+            let action = build_if(names.alloc, test, yes.action, no.action)?;
             let rest = no.rest;
-            Ok(Acted { action, rest })
+            Ok(Acted { action, own, rest })
         }
-        StmtKind::While(test, body) => resolve_while(alloc, body, test, places, gives, names),
-        StmtKind::Do(body, test) => resolve_do(alloc, body, test, places, gives, names),
+        StmtKind::While(test, body) => {
+            let turn = resolve_turn(body, test, places, gives, names)?;
+            let action = Action::While(turn.test, turn.body);
+            let rest = turn.rest;
+            Ok(Acted { action, own, rest })
+        }
+        StmtKind::Do(body, test) => {
+            let turn = resolve_turn(body, test, places, gives, names)?;
+            let action = Action::Do(turn.body, turn.test);
+            let rest = turn.rest;
+            Ok(Acted { action, own, rest })
+        }
         StmtKind::For(first, test, step, body) => {
-            resolve_for(alloc, first, test, step, body, places, gives, names)
+            resolve_for(first, test, step, body, places, gives, names)
         }
         StmtKind::Return(value) => {
-            let action = resolve_return(alloc, value, gives, names)?;
-            Ok(Acted { action, rest })
+            let action = resolve_return(value, gives, names)?;
+            Ok(Acted { action, own, rest })
         }
         StmtKind::Break => {
             let action = Action::Break;
-            Ok(Acted { action, rest })
+            Ok(Acted { action, own, rest })
         }
         StmtKind::Continue => {
             let action = Action::Continue;
-            Ok(Acted { action, rest })
+            Ok(Acted { action, own, rest })
         }
     }
 }
@@ -436,7 +377,6 @@ fn resolve_stmt<'a>(
 /// The statements of a block of a function that gives a type. The names that they declare are then in scope.
 #[cycle(statement)]
 pub(super) fn resolve_body<'a>(
-    alloc: Global,
     body: &[Stmt],
     places: &'a [u32],
     gives: &CType,
@@ -448,17 +388,15 @@ pub(super) fn resolve_body<'a>(
     ensures locals { IfOk result
         (λ b. b.locals.items ≡ block_locals places.now (stmts_of body.now)) }
     ensures means { IfOk result
-        (λ b. (definitions : List Definition) → (input : List ℕ) → (calls : Calls) →
-        body_run definitions input calls b.actions.items
-        ≡ exec_all input calls (ty_of gives.now) (names_in definitions names.old) places.now
+        (λ b. AreActionsOf names.old places.now (ty_of gives.now) b.actions.items
         (stmts_of body.now)) }
 {
-    let mut locals = Vec::new(alloc);
-    let mut actions = Vec::new(alloc);
+    let mut locals = Vec::new(names.alloc);
+    let mut actions = Vec::new(names.alloc);
     let mut rest = places;
     for s in body {
-        push_stmt_locals(alloc, s, rest, &mut locals)?;
-        let acted = resolve_stmt(alloc, s, rest, gives, names)?;
+        let acted = resolve_stmt(s, rest, gives, names)?;
+        locals.extend_from_slice(&acted.own)?;
         actions.push(acted.action)?;
         rest = acted.rest;
     }

@@ -1,7 +1,7 @@
 //! Expressions that are resolved.
 
 use crate::node::Node;
-use c_types::Seen;
+use c_rules::Seen;
 
 /// What an expression does, and its type where it has one.
 #[derive(Debug, Drop)]

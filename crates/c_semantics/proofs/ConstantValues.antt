@@ -1,6 +1,8 @@
 -- A constant without a breach has a value.
 use Rattle.std.proofs.Common.{◌≡◌, ℕ, Bool, true, false, not, List, [], ◌∷◌, ◌++◌, Option, Some, None, is_some, refl}
 use Rattle.std.specs.Prelude.{◌&&◌, ◌||◌, ◌==◌, if◌then◌else◌, IfSome}
+use Rattle.c_tree.specs.declared.storage.Storage.TheVariants.{Static}
+use Rattle.c_tree.specs.declared.usage.Use.TheVariants.{Value}
 use Rattle.c_tree.specs.declared.breach.Breach.{Breach}
 use Rattle.c_tree.specs.declared.breach.Broken.TheVariants.{NotConstant, Twice, Mismatch}
 use Rattle.c_tree.specs.declared.place.Place.{Place}
@@ -27,7 +29,7 @@ use Rattle.c_semantics.specs.Meaning.{global_declarators}
 -- what is no form of a constant is a breach
 not_foreign : (scope : Option Scope) (e : Expr) (at : Place) → foreign scope e at ≡ [] → ⊥
 not_foreign None e at h = never NotConstant at h
-not_foreign (Some scope) e at h = never NotConstant at (nil_right (breaches scope true e) _ h)
+not_foreign (Some scope) e at h = never NotConstant at (nil_right (breaches scope Value e) _ h)
 
 not_named : (scope : Option Scope) (name : List ℕ) (at : Place) → foreign_name scope name at ≡ []
     → ⊥
@@ -129,16 +131,16 @@ is_constant scope d (Some (initial.One e)) h = has_value (Some scope) true e (ni
 is_constant scope d (Some (initial.Many es)) h = have_values scope es (nil_left _ _ h)
 
 are_constant : (ds others : List Var) (scope : Scope)
-    → declarators_breaches true scope ds ≡ [] → AreConstant others → AreConstant (ds ++ others)
+    → declarators_breaches Static scope ds ≡ [] → AreConstant others → AreConstant (ds ++ others)
 are_constant [] others scope h rest = rest
 are_constant (d ∷ ds) others scope h rest =
-    let one = nil_left (declarator_breaches true scope d) _ h in
+    let one = nil_left (declarator_breaches Static scope d) _ h in
     let two = nil_right (constants_breaches scope d.sizes) _ one in
     let three = nil_right (unless (not (is_some (scope.inner d.name))) Twice d.place) _ two in
     let init = nil_right (unless (fit_sizes d.sizes) Mismatch d.place) _ three in (
       have_values scope d.sizes (nil_left _ _ one),
       is_constant (with_declarator d scope) d d.init init,
-      are_constant ds others (with_declarator d scope) (nil_right (declarator_breaches true scope d) _ h) rest,
+      are_constant ds others (with_declarator d scope) (nil_right (declarator_breaches Static scope d) _ h) rest,
     )
 
 pub globals_constant : (text ps before : List Item) (scope : Scope)

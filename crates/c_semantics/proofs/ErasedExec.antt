@@ -30,18 +30,8 @@ same_behind s places = ap (λ (ds : List Var). drop (length ds) places) (same_lo
 
 same_own : (places : List ℕ) (s : Stmt)
     → statement_locals places (erased s) ≡ statement_locals places s
-same_own places (stmt.Empty at) = refl
-same_own places (stmt.Expr e at) = refl
 same_own places (stmt.Vars ds at) = refl
-same_own places (stmt.Block body at) = refl
-same_own places (stmt.Marker m at) = refl
-same_own places (stmt.If c s other at) = refl
-same_own places (stmt.While c s at) = refl
-same_own places (stmt.Do s c at) = refl
-same_own places (stmt.For f c d s at) = refl
-same_own places (stmt.Return value at) = refl
-same_own places (stmt.Break at) = refl
-same_own places (stmt.Continue at) = refl
+same_own places s = refl
 
 pub same_block : (places : List ℕ) (body : Stmts)
     → block_locals places (erased_all body) ≡ block_locals places body

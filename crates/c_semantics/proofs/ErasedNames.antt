@@ -72,18 +72,8 @@ erased_locals places (d ∷ ds) names = ap (with_locals_named (drop 1 places) ds
 pub erased_behind : (places : List ℕ) (s : Stmt) (names : Names)
     → named_behind places (erased s) (erased_names names)
     ≡ erased_names (named_behind places s names)
-erased_behind places (stmt.Empty at) names = refl
-erased_behind places (stmt.Expr e at) names = refl
 erased_behind places (stmt.Vars ds at) names = erased_locals places ds names
-erased_behind places (stmt.Block body at) names = refl
-erased_behind places (stmt.Marker m at) names = refl
-erased_behind places (stmt.If c s other at) names = refl
-erased_behind places (stmt.While c s at) names = refl
-erased_behind places (stmt.Do s c at) names = refl
-erased_behind places (stmt.For f c d s at) names = refl
-erased_behind places (stmt.Return value at) names = refl
-erased_behind places (stmt.Break at) names = refl
-erased_behind places (stmt.Continue at) names = refl
+erased_behind places s names = refl
 
 erased_global : (places : List ℕ) (d : Var) (names : Names)
     → with_global places d (erased_names names) ≡ erased_names (with_global places d names)

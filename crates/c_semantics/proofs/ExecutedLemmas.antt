@@ -1,6 +1,8 @@
 -- A statement without a breach can be executed where its locals have places.
 use Rattle.std.proofs.Common.{◌≡◌, ℕ, suc, ◌≤◌, length, drop, Bool, true, false, not, List, [], ◌∷◌, ◌++◌, Option, Some, None, is_some, arith, length-append, length-drop}
 use Rattle.std.specs.Prelude.{◌≢◌, IfSome}
+use Rattle.c_tree.specs.declared.storage.Storage.TheVariants.{Automatic}
+use Rattle.c_tree.specs.declared.usage.Use.TheVariants.{Value}
 use Rattle.c_tree.specs.declared.breach.Broken.TheVariants.{Twice, Mismatch}
 use Rattle.c_tree.specs.declared.place.Place.{Place}
 use Rattle.c_tree.specs.Ty.{Ty}
@@ -60,11 +62,11 @@ initialisable scope names s d (Some (initial.Many es)) h = never Mismatch d.plac
 
 declarable : (scope : Scope) (names : Names) (places : List ℕ) (ds : List Var)
     → SameNames scope names → length ds ≤ length places
-    → declarators_breaches false scope ds ≡ [] → AreDeclarable names places ds
+    → declarators_breaches Automatic scope ds ≡ [] → AreDeclarable names places ds
 declarable scope names places [] s le h = tt
 declarable scope names places (d ∷ ds) s le h =
-    let one = nil_left (declarator_breaches false scope d) _ h in
-    let rest = nil_right (declarator_breaches false scope d) _ h in
+    let one = nil_left (declarator_breaches Automatic scope d) _ h in
+    let rest = nil_right (declarator_breaches Automatic scope d) _ h in
     let place = has_place (length ds) places le in
     let inner = same_local places d place s in
     let two = nil_right (constants_breaches scope d.sizes) _ one in
@@ -94,7 +96,7 @@ module _ (scope : Scope) (names : Names) (s : SameNames scope names) where
       → return_breaches scope result value at ≡ [] → IsReturnable names result value
   returnable result None at h = holds (is_void result) Mismatch at h
   returnable result (Some e) at h =
-      let own = holds _ Mismatch at (nil_right (breaches scope true e) _ h) in
+      let own = holds _ Mismatch at (nil_right (breaches scope Value e) _ h) in
       (is_false (is_void result) (left_true (not (is_void result)) _ own), evaluable scope names s e (nil_left _ _ h))
 
   beginnable : (places : List ℕ) (f : First) → length (beginning_locals f) ≤ length places

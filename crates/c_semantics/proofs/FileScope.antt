@@ -2,6 +2,7 @@
 use Rattle.std.proofs.Common.{◌≡◌, ℕ, Bool, true, false, not, ◌&&◌, List, [], ◌∷◌, ◌++◌, Option, Some, is_some, refl, ap, ap₂, sym, subst, ◌∙◌}
 use Rattle.std.specs.Cmp.Lexicographic.{bytes_decides}
 use Rattle.std.specs.Prelude.{bytes_eq, if◌then◌else◌}
+use Rattle.c_tree.specs.declared.storage.Storage.TheVariants.{Static}
 use Rattle.c_tree.specs.declared.breach.Broken.TheVariants.{Twice, Mismatch}
 use Rattle.c_tree.specs.declared.place.Place.{Place}
 use Rattle.c_tree.specs.Ty.{Ty}
@@ -33,7 +34,7 @@ bound_stays true new o known again h = ap Some (again refl)
 bound_stays false new o known again h = h
 
 declared_stays : (scope : Scope) (d : Var) (name : List ℕ) (known : Known)
-    → declarator_breaches true scope d ≡ [] → scope.inner name ≡ Some known
+    → declarator_breaches Static scope d ≡ [] → scope.inner name ≡ Some known
     → (with_declarator d scope).inner name ≡ Some known
 declared_stays scope d name known h here =
     let two = nil_right (constants_breaches scope d.sizes) _ h in
@@ -44,11 +45,11 @@ declared_stays scope d name known h here =
     bound_stays (bytes_eq d.name name) (ObjectOf (declared_shape d)) (scope.inner name) known again here
 
 declarators_stay : (ds : List Var) (scope : Scope) (name : List ℕ) (known : Known)
-    → declarators_breaches true scope ds ≡ [] → scope.inner name ≡ Some known
+    → declarators_breaches Static scope ds ≡ [] → scope.inner name ≡ Some known
     → (with_declarators ds scope).inner name ≡ Some known
 declarators_stay [] scope name known h here = here
 declarators_stay (d ∷ ds) scope name known h here =
-    declarators_stay ds (with_declarator d scope) name known (nil_right (declarator_breaches true scope d) _ h)
+    declarators_stay ds (with_declarator d scope) name known (nil_right (declarator_breaches Static scope d) _ h)
     (declared_stays scope d name known (nil_left _ _ h) here)
 
 module _ (text : List Item) where

@@ -1,6 +1,8 @@
 -- The names that the checker knows stand for the same in the meaning, and an expression without a breach has the same type there.
 use Rattle.std.proofs.Common.{◌≡◌, ℕ, length, Bool, true, false, List, [], ◌∷◌, ◌++◌, Option, Some, None, refl, ap, sym, subst, ◌∙◌}
 use Rattle.std.specs.Prelude.{◌≢◌, ◌&&◌, bytes_eq, option_map, if◌then◌else◌}
+use Rattle.c_tree.specs.declared.usage.Use.{Use}
+use Rattle.c_tree.specs.declared.usage.Use.TheVariants.{Value}
 use Rattle.c_tree.specs.declared.breach.Broken.TheVariants.{Mismatch, Unknown}
 use Rattle.c_tree.specs.declared.place.Place.{Place}
 use Rattle.c_tree.specs.declared.tree.Callee.{Callee}
@@ -83,11 +85,11 @@ same_object None named at s h = never Unknown at h
 same_object (Some (ObjectOf t)) named at s h = ap (λ o. object (otherwise (option_map known o) None)) s.is
 same_object (Some (FunctionOf t ps d)) named at s h = never Mismatch at h
 
-pub is_defined_call : (t : Ty) (ps : List Ty) (d used counts fits : Bool) (at : Place)
+pub is_defined_call : (t : Ty) (ps : List Ty) (d : Bool) (used : Use) (counts fits : Bool) (at : Place)
     → call_breaches used (Some (FunctionOf t ps d)) counts fits at ≡ [] → d ≡ true
 is_defined_call t ps d used counts fits at h = holds d Unknown at (nil_left _ _ h)
 
-same_routine : (k : Option Known) (named : Option Named) (used counts fits : Bool) (at : Place)
+same_routine : (k : Option Known) (named : Option Named) (used : Use) (counts fits : Bool) (at : Place)
     → Stands k named → call_breaches used k counts fits at ≡ []
     → otherwise (option_map known named) None ≡ k
 same_routine None named used counts fits at s h = never Unknown at h
@@ -96,7 +98,7 @@ same_routine (Some (FunctionOf t ps d)) named used counts fits at s h =
     ap (λ o. otherwise (option_map known o) None) s.is ∙ ap (λ b. Some (FunctionOf t ps b)) (sym (is_defined_call t ps d used counts fits at h))
 
 module _ (scope : Scope) (names : Names) (s : SameNames scope names) where
-  same_called : (c : Callee) (used counts fits : Bool) (at : Place)
+  same_called : (c : Callee) (used : Use) (counts fits : Bool) (at : Place)
       → call_breaches used (called scope c) counts fits at ≡ []
       → called (types names) c ≡ called scope c
   same_called (callee.Name name) used counts fits at h = same_routine (look scope name) (names name) used counts fits at (s.stands name) h
@@ -104,32 +106,32 @@ module _ (scope : Scope) (names : Names) (s : SameNames scope names) where
   same_called callee.Putchar used counts fits at h = refl
 
   mutual
-    pub same_type : (used : Bool) (e : Expr) → breaches scope used e ≡ []
+    pub same_type : (used : Use) (e : Expr) → breaches scope used e ≡ []
         → type_at (types names) e ≡ type_at scope e
     same_type used (expr.Name name at) h = same_object (look scope name) (names name) at (s.stands name) h
     same_type used (expr.Number t n at) h = refl
     same_type used (expr.Character code at) h = refl
     same_type used (expr.Eof at) h = refl
-    same_type used (expr.Unary op a at) h = ap (unary_type op (is_place a)) (same_type true a (nil_left _ _ h))
-    same_type used (expr.Step how a at) h = ap (λ t. where_right (is_place a) (one step_rule t)) (same_type true a (nil_left _ _ h))
-    same_type used (expr.Cast to a at) h = ap (one (cast_rule to)) (same_type true a (nil_left _ _ h))
+    same_type used (expr.Unary op a at) h = ap (unary_type op (is_place a)) (same_type Value a (nil_left _ _ h))
+    same_type used (expr.Step how a at) h = ap (λ t. where_right (is_place a) (one step_rule t)) (same_type Value a (nil_left _ _ h))
+    same_type used (expr.Cast to a at) h = ap (one (cast_rule to)) (same_type Value a (nil_left _ _ h))
     same_type used (expr.Binary op a b at) h =
         let rule = binary_rule op (is_nought a) (is_nought b) in
-        let two = nil_right (breaches scope true a) _ h in
-        λ i. both rule (same_type true a (nil_left _ _ h) i) (same_type true b (nil_left _ _ two) i)
+        let two = nil_right (breaches scope Value a) _ h in
+        λ i. both rule (same_type Value a (nil_left _ _ h) i) (same_type Value b (nil_left _ _ two) i)
     same_type used (expr.Conditional c a b at) h =
         let rule = conditional_rule (is_nought a) (is_nought b) in
-        let two = nil_right (breaches scope true c) _ h in
-        let three = nil_right (breaches scope true a) _ two in
-        λ i. where_right (is_test (same_type true c (nil_left _ _ h) i))
-        (both rule (same_type true a (nil_left _ _ two) i) (same_type true b (nil_left _ _ three) i))
+        let two = nil_right (breaches scope Value c) _ h in
+        let three = nil_right (breaches scope Value a) _ two in
+        λ i. where_right (is_test (same_type Value c (nil_left _ _ h) i))
+        (both rule (same_type Value a (nil_left _ _ two) i) (same_type Value b (nil_left _ _ three) i))
     same_type used (expr.Assign how a b at) h =
         let rule = assign_rule how (is_nought b) in
-        let two = nil_right (breaches scope true a) _ h in
-        λ i. where_right (is_place a) (both rule (same_type true a (nil_left _ _ h) i) (same_type true b (nil_left _ _ two) i))
+        let two = nil_right (breaches scope Value a) _ h in
+        λ i. where_right (is_place a) (both rule (same_type Value a (nil_left _ _ h) i) (same_type Value b (nil_left _ _ two) i))
     same_type used (expr.Index a b at) h =
-        let two = nil_right (breaches scope true a) _ h in
-        λ i. both index_rule (same_type true a (nil_left _ _ h) i) (same_type true b (nil_left _ _ two) i)
+        let two = nil_right (breaches scope Value a) _ h in
+        λ i. both index_rule (same_type Value a (nil_left _ _ h) i) (same_type Value b (nil_left _ _ two) i)
     same_type used (expr.Call c all at) h =
         let k = called scope c in
         let own = same_called c used (same_count (parameters_of k) all) (all_possible scope (parameters_of k) all) at (nil_right (breaches_in scope all) _ h) in
@@ -140,6 +142,6 @@ module _ (scope : Scope) (names : Names) (s : SameNames scope names) where
         → all_taken (types names) ps all ≡ all_taken scope ps all
     same_taken ps expr.NoMore h = refl
     same_taken ps (expr.More a rest) h =
-        let own = same_type true a (nil_left _ _ h) in
-        let next = same_taken (others ps) rest (nil_right (breaches scope true a) _ h) in
+        let own = same_type Value a (nil_left _ _ h) in
+        let next = same_taken (others ps) rest (nil_right (breaches scope Value a) _ h) in
         λ i. takes_first ps (is_nought a) (own i) && next i

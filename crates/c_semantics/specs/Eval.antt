@@ -1,5 +1,6 @@
 -- The value of an expression, with what its evaluation does (C11 6.5): one step is counted at each node, behind its operands and before its own act.
 use Rattle.std.specs.Prelude.{ℕ, ◌%◌, ◌^◌, ◌==◌, Bool, true, false, not, ◌&&◌, ◌||◌, List, [], ◌∷◌, ◌++◌, ◌+◌, Option, Some, None, Ok, Err, if◌then◌else◌, slice_get, ℤ, pos, neg_ℤ}
+use Rattle.c_tree.specs.declared.limits.TheConstants.{END_OF_FILE}
 use Rattle.c_tree.specs.declared.operator.Binary.{Binary}
 use Rattle.c_tree.specs.declared.operator.Binary.TheVariants as binary
 use Rattle.c_tree.specs.declared.operator.Group.{Group}
@@ -196,7 +197,7 @@ conditional_run c a b = do
   pure v
 
 abbrev pub taken : Option ℕ → Run (Option ℕ)
-taken None = pure (Some 4294967295)
+taken None = pure (Some END_OF_FILE)
 taken (Some byte) = do
   store ← now
   change (record store { cursor = store.cursor + 1 })
@@ -256,7 +257,7 @@ module _ (input : List ℕ) (calls : Calls) (names : Names) where
       pure code
     eval (expr.Eof at) = do
       count
-      pure 4294967295
+      pure END_OF_FILE
     eval (expr.Unary op a at) =
         unary_run op (operand_in a) (held_in (expr.Unary op a at)) at (eval a) (address a)
     eval (expr.Step how a at) = stepped how (operand_in a) (held_in a) (place_of a) at (address a)

@@ -31,18 +31,20 @@ digit_no_suffix base b le h =
     (false_from_ne_true _ (λ e. let lt : 16 < base = ltb-true 16 base (subst (λ x. is_digit base x ≡ true) (eqb-true b 117 e) h) in omega arith))
     (false_from_ne_true _ (λ e. let lt : 16 < base = ltb-true 16 base (subst (λ x. is_digit base x ≡ true) (eqb-true b 85 e) h) in omega arith))
 
-pub based_word : (base b : ℕ) → base ≤ 16 → is_digit base b ≡ true → is_word b ≡ true
-based_word base b le h =
-    ⊎_elim
-    (λ (e : is_in_range 48 57 b ≡ true). or_left (is_ascii_alphanumeric b) _ (or_left (is_in_range 48 57 b || is_in_range 65 90 b) _ (or_left (is_in_range 48 57 b) _ e)))
+-- a digit of a base up to 16 is a decimal digit, or a letter with its value
+by_kind : (base b : ℕ) {P : Type 0} → base ≤ 16 → is_digit base b ≡ true
+    → (is_in_range 48 57 b ≡ true → P) → (97 ≤ b → b ≤ 102 → digit b ≡ b - 87 → P)
+    → (65 ≤ b → b ≤ 70 → digit b ≡ b - 55 → P) → P
+by_kind base b le h decimal lower upper =
+    ⊎_elim decimal
     (λ (e : is_in_range 48 57 b ≡ false). ⊎_elim
     (λ (f : is_in_range 97 102 b ≡ true).
     let p = and_parts (nat_le 97 b) (nat_le b 102) f in
-    or_left (is_ascii_alphanumeric b) _ (or_right (is_in_range 48 57 b || is_in_range 65 90 b) _ (and_from (nat_le 97 b) (nat_le b 122) p.0 (le-leb b 122 (omega (arith, leb-true b 102 p.1))))))
+    lower (leb-true 97 b p.0) (leb-true b 102 p.1) (cond-false _ _ _ e ∙ cond-true _ _ _ f))
     (λ (f : is_in_range 97 102 b ≡ false). ⊎_elim
     (λ (g : is_in_range 65 70 b ≡ true).
     let p = and_parts (nat_le 65 b) (nat_le b 70) g in
-    or_left (is_ascii_alphanumeric b) _ (or_left (is_in_range 48 57 b || is_in_range 65 90 b) _ (or_right (is_in_range 48 57 b) _ (and_from (nat_le 65 b) (nat_le b 90) p.0 (le-leb b 90 (omega (arith, leb-true b 70 p.1)))))))
+    upper (leb-true 65 b p.0) (leb-true b 70 p.1) (cond-false _ _ _ e ∙ cond-false _ _ _ f ∙ cond-true _ _ _ g))
     (λ (g : is_in_range 65 70 b ≡ false).
     let d : digit b ≡ 16 = cond-false _ _ _ e ∙ cond-false _ _ _ f ∙ cond-false _ _ _ g in
     absurd (omega (arith, ltb-true (digit b) base h, d)))
@@ -50,24 +52,17 @@ based_word base b le h =
     (cases_Bool (is_in_range 97 102 b)))
     (cases_Bool (is_in_range 48 57 b))
 
+pub based_word : (base b : ℕ) → base ≤ 16 → is_digit base b ≡ true → is_word b ≡ true
+based_word base b le h = by_kind base b le h
+    (λ e. or_left (is_ascii_alphanumeric b) _ (or_left (is_in_range 48 57 b || is_in_range 65 90 b) _ (or_left (is_in_range 48 57 b) _ e)))
+    (λ low high d. or_left (is_ascii_alphanumeric b) _ (or_right (is_in_range 48 57 b || is_in_range 65 90 b) _ (and_from (nat_le 97 b) (nat_le b 122) (le-leb 97 b low) (le-leb b 122 (omega (arith, high))))))
+    (λ low high d. or_left (is_ascii_alphanumeric b) _ (or_left (is_in_range 48 57 b || is_in_range 65 90 b) _ (or_right (is_in_range 48 57 b) _ (and_from (nat_le 65 b) (nat_le b 90) (le-leb 65 b low) (le-leb b 90 (omega (arith, high)))))))
+
 -- a digit of a base up to 10
 pub digit_decimal : (base b : ℕ) → base ≤ 10 → is_digit base b ≡ true → is_ascii_digit b ≡ true
-digit_decimal base b le h =
-    ⊎_elim (λ (e : is_in_range 48 57 b ≡ true). e)
-    (λ (e : is_in_range 48 57 b ≡ false). ⊎_elim
-    (λ (f : is_in_range 97 102 b ≡ true).
-    let d : digit b ≡ b - 87 = cond-false _ _ _ e ∙ cond-true _ _ _ f in
-    absurd (omega (arith, leb-true 97 b (and_parts (nat_le 97 b) (nat_le b 102) f).0, ltb-true (digit b) base h, d)))
-    (λ (f : is_in_range 97 102 b ≡ false). ⊎_elim
-    (λ (g : is_in_range 65 70 b ≡ true).
-    let d : digit b ≡ b - 55 = cond-false _ _ _ e ∙ cond-false _ _ _ f ∙ cond-true _ _ _ g in
-    absurd (omega (arith, leb-true 65 b (and_parts (nat_le 65 b) (nat_le b 70) g).0, ltb-true (digit b) base h, d)))
-    (λ (g : is_in_range 65 70 b ≡ false).
-    let d : digit b ≡ 16 = cond-false _ _ _ e ∙ cond-false _ _ _ f ∙ cond-false _ _ _ g in
-    absurd (omega (arith, ltb-true (digit b) base h, d)))
-    (cases_Bool (is_in_range 65 70 b)))
-    (cases_Bool (is_in_range 97 102 b)))
-    (cases_Bool (is_in_range 48 57 b))
+digit_decimal base b le h = by_kind base b (omega (arith, le)) h (λ e. e)
+    (λ low high d. absurd (omega (arith, low, ltb-true (digit b) base h, d)))
+    (λ low high d. absurd (omega (arith, low, ltb-true (digit b) base h, d)))
 
 pub digits_words : (base : ℕ) (ds : List ℕ) → base ≤ 16 → list_all (is_digit base) ds ≡ true
     → list_all is_word ds ≡ true

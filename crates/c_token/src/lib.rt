@@ -7,7 +7,9 @@ mod character;
 mod comment;
 mod directive;
 mod fault;
+mod laws;
 mod lexeme;
+mod limits;
 mod number;
 mod reader;
 mod sign;
@@ -16,21 +18,22 @@ mod tail;
 mod token;
 mod word;
 
-ghost use Rattle.std.specs.Prelude.{◌≤◌, ◌+◌, ◌≡◌, All, IfOk, length, List, ℕ};
-ghost use Rattle.c_token.specs.Text.{Answers, AreTokensOf, IsFaultOf};
+ghost use Rattle.std.specs.Prelude.{◌≤◌, ◌+◌, All, IfOk, length};
+ghost use Rattle.c_token.specs.Text.{Answers};
 ghost use Rattle.c_token.specs.Tokens.{IsProper, EndsOnce};
-ghost use Rattle.c_token.specs.declared.token.Token.{Token};
-ghost use Rattle.c_token.specs.declared.fault.TokenFault.{TokenFault};
+ghost use Rattle.c_token.specs.declared.limits.TheConstants.{TEXT_BYTES};
 
 pub use fault::TokenFault;
+pub use laws::{limits_in_numbers, one_answer};
+pub use limits::TEXT_BYTES;
 use reader::Reader;
 use std::alloc::Global;
 pub use token::{Kind, Token};
 
-/// The tokens of a text of at most 1 MiB, the last one `End`, which stands where the text ends; or the
+/// The tokens of a text, the last one `End`, which stands where the text ends; or the
 /// first fault from the left (C11 6.4 and 6.10).
 pub fn tokens(alloc: Global, text: &[u8]) -> Result<Vec<Token>, TokenFault>
-    requires { length text.now ≤ 1048576 }
+    requires { length text.now ≤ TEXT_BYTES }
     ensures answer { Answers text.now result }
     ensures proper { IfOk result (λ tokens. All IsProper tokens.items) }
     ensures count { IfOk result (λ tokens. length tokens.items ≤ length text.now + 1) }
@@ -42,13 +45,3 @@ pub fn tokens(alloc: Global, text: &[u8]) -> Result<Vec<Token>, TokenFault>
     }
     reader.finish()
 }
-
-/// A text has one answer: its tokens, or its first fault.
-pub fn one_answer()
-    ensures tokens { (text : List ℕ) (a b : List Token) → AreTokensOf text a → AreTokensOf text b
-        → a ≡ b }
-    ensures faults { (text : List ℕ) (r q : TokenFault) → IsFaultOf text r → IsFaultOf text q
-        → r ≡ q }
-    ensures apart { (text : List ℕ) (a : List Token) (r : TokenFault) → AreTokensOf text a
-        → IsFaultOf text r → ⊥ }
-{}

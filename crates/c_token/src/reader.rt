@@ -35,9 +35,10 @@ impl<'a> Reader<'a> {
     ghost use Rattle.c_token.specs.Pieces.{replaced};
     ghost use Rattle.c_token.specs.private.Lexemes.{kind_of};
     ghost use Rattle.c_token.specs.private.Readers.{StepOf, HasRoom, HasRead, Skips, names_of};
+    ghost use Rattle.c_token.specs.declared.limits.TheConstants.{TEXT_BYTES};
 
     pub fn new(alloc: Global, text: &'a [u8]) -> Self
-        requires { length text.now ≤ 1048576 }
+        requires { length text.now ≤ TEXT_BYTES }
         ensures { HasRead text.now result }
     {
         Reader {

@@ -1,5 +1,6 @@
 -- An expression without a breach of the rules of a constant has a value, and its type in every scope.
 use Rattle.std.proofs.Common.{◌≡◌, ℕ, ◌==◌, Bool, true, false, not, ◌&&◌, ◌||◌, List, [], ◌++◌, Option, Some, None, is_some, if◌then◌else◌, refl, ap, ap₂, ◌∙◌}
+use Rattle.c_tree.specs.declared.usage.Use.TheVariants.{Value}
 use Rattle.c_tree.specs.declared.breach.Breach.{Breach}
 use Rattle.c_tree.specs.declared.breach.Broken.{Broken}
 use Rattle.c_tree.specs.declared.breach.Broken.TheVariants.{NotConstant, Unknown}
@@ -28,7 +29,7 @@ use Rattle.c_tree.proofs.NoBreach.{nil_left, nil_right, holds, never, and_true}
 foreign_never : {P : Type 0} (scope : Option Scope) (e : Expr) (at : Place)
     → foreign scope e at ≡ [] → P
 foreign_never None e at h = never NotConstant at h
-foreign_never (Some scope) e at h = never NotConstant at (nil_right (breaches scope true e) _ h)
+foreign_never (Some scope) e at h = never NotConstant at (nil_right (breaches scope Value e) _ h)
 
 breach_never : {P : Type 0} (visible : Bool) (at : Place) → name_breach visible at ≡ [] → P
 breach_never true at h = never NotConstant at h
@@ -120,17 +121,13 @@ pub settled : (t : Ty) → is_integer t ≡ true → decayed t ≡ t
 settled ty.Int h = refl
 settled ty.Unsigned h = refl
 settled ty.Char h = refl
-settled ty.Void h = cc
-settled (ty.Pointer t) h = cc
-settled (ty.Array t n) h = cc
+settled t h = cc
 
 promoted_integer : (t : Ty) → is_integer t ≡ true → is_integer (promoted t) ≡ true
 promoted_integer ty.Int h = refl
 promoted_integer ty.Unsigned h = refl
 promoted_integer ty.Char h = refl
-promoted_integer ty.Void h = cc
-promoted_integer (ty.Pointer t) h = cc
-promoted_integer (ty.Array t n) h = cc
+promoted_integer t h = cc
 
 common_integer : (t u : Ty) → is_integer (common t u) ≡ true
 common_integer t u = go (is_unsigned t || is_unsigned u)

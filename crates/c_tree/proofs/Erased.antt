@@ -11,18 +11,12 @@ use Rattle.c_tree.specs.Markers.{own_markers, markers, all_markers, body_markers
 
 mutual
   none_left : (s : Stmt) → markers (erased s) ≡ []
-  none_left (stmt.Empty at) = refl
-  none_left (stmt.Expr e at) = refl
-  none_left (stmt.Vars ds at) = refl
   none_left (stmt.Block body at) = none_left_in body
-  none_left (stmt.Marker m at) = refl
   none_left (stmt.If c s other at) = ap₂ (λ a b. a ++ b) (none_left s) (none_left_else other)
   none_left (stmt.While c s at) = none_left s
   none_left (stmt.Do s c at) = none_left s
   none_left (stmt.For f c d s at) = none_left s
-  none_left (stmt.Return value at) = refl
-  none_left (stmt.Break at) = refl
-  none_left (stmt.Continue at) = refl
+  none_left s = refl
 
   none_left_else : (other : ElseBranch) → collect_else own_markers (erased_else other) ≡ []
   none_left_else stmt.NoElse = refl
@@ -51,18 +45,13 @@ right_empty (x ∷ xs) ys h = cc
 
 mutual
   stays : (s : Stmt) → markers s ≡ [] → erased s ≡ s
-  stays (stmt.Empty at) h = refl
-  stays (stmt.Expr e at) h = refl
-  stays (stmt.Vars ds at) h = refl
   stays (stmt.Block body at) h = ap (λ b. stmt.Block b at) (all_stay body h)
   stays (stmt.Marker m at) h = cc
   stays (stmt.If c s other at) h = ap₂ (λ t o. stmt.If c t o at) (stays s (left_empty (markers s) (collect_else own_markers other) h)) (else_stays other (right_empty (markers s) (collect_else own_markers other) h))
   stays (stmt.While c s at) h = ap (λ t. stmt.While c t at) (stays s h)
   stays (stmt.Do s c at) h = ap (λ t. stmt.Do t c at) (stays s h)
   stays (stmt.For f c d s at) h = ap (λ t. stmt.For f c d t at) (stays s h)
-  stays (stmt.Return value at) h = refl
-  stays (stmt.Break at) h = refl
-  stays (stmt.Continue at) h = refl
+  stays s h = refl
 
   else_stays : (other : ElseBranch) → collect_else own_markers other ≡ [] → erased_else other ≡ other
   else_stays stmt.NoElse h = refl

@@ -33,9 +33,6 @@ module _ (result : Ty) where
     right_erased : (loop : Bool) (s : Stmt) (scope : Scope)
         → statement_breaches result loop s scope ≡ []
         → statement_breaches result loop (erased s) scope ≡ []
-    right_erased loop (stmt.Empty at) scope h = refl
-    right_erased loop (stmt.Expr e at) scope h = h
-    right_erased loop (stmt.Vars ds at) scope h = h
     right_erased loop (stmt.Block body at) scope h = all_right_erased loop body (entered scope) h
     right_erased loop (stmt.Marker m at) scope h = refl
     right_erased loop (stmt.If c s other at) scope h =
@@ -53,9 +50,7 @@ module _ (result : Ty) where
         nil_both _ _ (nil_left (beginning_breaches (entered scope) f) _ h)
         (nil_both _ _ (nil_left (optional_test_breaches inside c at) _ two)
         (nil_both _ _ (nil_left (unused_breaches inside d) _ three) (right_erased true s (entered inside) (nil_right (unused_breaches inside d) _ three))))
-    right_erased loop (stmt.Return value at) scope h = h
-    right_erased loop (stmt.Break at) scope h = h
-    right_erased loop (stmt.Continue at) scope h = h
+    right_erased loop s scope h = h
 
     else_right_erased : (loop : Bool) (other : ElseBranch) (scope : Scope)
         → else_breaches result loop other scope ≡ []
@@ -73,18 +68,12 @@ module _ (result : Ty) where
 
 mutual
   no_edges : (block : Option Place) (s : Stmt) → edges block (erased s) ≡ []
-  no_edges block (stmt.Empty at) = refl
-  no_edges block (stmt.Expr e at) = refl
-  no_edges block (stmt.Vars ds at) = refl
   no_edges block (stmt.Block body at) = no_edges_in (Some at) body
-  no_edges block (stmt.Marker m at) = refl
   no_edges block (stmt.If c s other at) = ap₂ (λ a b. a ++ b) (no_edges None s) (no_else_edges other)
   no_edges block (stmt.While c s at) = no_edges None s
   no_edges block (stmt.Do s c at) = no_edges None s
   no_edges block (stmt.For f c d s at) = no_edges None s
-  no_edges block (stmt.Return value at) = refl
-  no_edges block (stmt.Break at) = refl
-  no_edges block (stmt.Continue at) = refl
+  no_edges block s = refl
 
   no_else_edges : (other : ElseBranch) → else_edges (erased_else other) ≡ []
   no_else_edges stmt.NoElse = refl

@@ -1,4 +1,5 @@
 pub mod Acceptance
+pub mod BlocksLemmas
 pub mod CollectLemmas
 pub mod ConstantLemmas
 pub mod Derived

@@ -46,12 +46,8 @@ record IsEnough (rule : Ty → Ty → Option Ty) : Type 0 where
   none : possible_both rule None None ≡ true
 
 void_decayed : (t : Ty) → is_void t ≡ false → is_void (decayed t) ≡ false
-void_decayed ty.Int h = refl
-void_decayed ty.Unsigned h = refl
-void_decayed ty.Char h = refl
 void_decayed ty.Void h = cc
-void_decayed (ty.Pointer t) h = refl
-void_decayed (ty.Array t n) h = refl
+void_decayed t h = refl
 
 module _ (rule : Ty → Ty → Option Ty) where
   completed : (x y : Option Ty) (t u : Ty) → MightHave x t → MightHave y u
@@ -167,21 +163,17 @@ binary_exact op n m = exact (binary_rule op n m) (record { right = binary_right 
 
 conditional_right : (n m : Bool) (t u : Ty) → is_void t ≡ false
     → is_some (conditional_rule n m t u) ≡ true → possible_right (conditional_rule n m) t ≡ true
-conditional_right n m ty.Int u v h = refl
-conditional_right n m ty.Unsigned u v h = refl
-conditional_right n m ty.Char u v h = refl
 conditional_right n m ty.Void u v h = cc
 conditional_right n m (ty.Pointer s) u v h = third_right (conditional_rule n m) (ty.Pointer s) (rw (same_itself s) refl)
 conditional_right n m (ty.Array s k) u v h = third_right (conditional_rule n m) (ty.Array s k) (rw (same_itself s) refl)
+conditional_right n m t u v h = refl
 
 conditional_left : (n m : Bool) (t u : Ty) → is_void u ≡ false
     → is_some (conditional_rule n m t u) ≡ true → possible_left (conditional_rule n m) u ≡ true
-conditional_left n m t ty.Int v h = refl
-conditional_left n m t ty.Unsigned v h = refl
-conditional_left n m t ty.Char v h = refl
 conditional_left n m t ty.Void v h = cc
 conditional_left n m t (ty.Pointer s) v h = third_left (conditional_rule n m) (ty.Pointer s) (rw (same_itself s) refl)
 conditional_left n m t (ty.Array s k) v h = third_left (conditional_rule n m) (ty.Array s k) (rw (same_itself s) refl)
+conditional_left n m t u v h = refl
 
 pub conditional_exact : (n m : Bool) → IsExact (conditional_rule n m)
 conditional_exact n m = exact (conditional_rule n m) (record { right = conditional_right n m; left = conditional_left n m; none = refl })
@@ -190,21 +182,13 @@ conditional_exact n m = exact (conditional_rule n m) (record { right = condition
 
 index_right : (t u : Ty) → is_void t ≡ false → is_some (index_rule t u) ≡ true
     → possible_right index_rule t ≡ true
-index_right ty.Int u v h = refl
-index_right ty.Unsigned u v h = refl
-index_right ty.Char u v h = refl
 index_right ty.Void u v h = cc
-index_right (ty.Pointer s) u v h = refl
-index_right (ty.Array s k) u v h = refl
+index_right t u v h = refl
 
 index_left : (t u : Ty) → is_void u ≡ false → is_some (index_rule t u) ≡ true
     → possible_left index_rule u ≡ true
-index_left t ty.Int v h = refl
-index_left t ty.Unsigned v h = refl
-index_left t ty.Char v h = refl
 index_left t ty.Void v h = cc
-index_left t (ty.Pointer s) v h = refl
-index_left t (ty.Array s k) v h = refl
+index_left t u v h = refl
 
 pub index_exact : IsExact index_rule
 index_exact = exact index_rule (record { right = index_right; left = index_left; none = refl })

@@ -23,20 +23,13 @@ use Rattle.c_tree.proofs.NoBreach.{left_true, and_true}
 -- ---- types
 
 pub same_itself : (t : Ty) → same t t ≡ true
-same_itself ty.Int = refl
-same_itself ty.Unsigned = refl
-same_itself ty.Char = refl
-same_itself ty.Void = refl
 same_itself (ty.Pointer t) = same_itself t
 same_itself (ty.Array t n) = let e : n == n ≡ true = grind (arith, nat_tests) in rw e (same_itself t)
+same_itself t = refl
 
 not_pointer : (t : Ty) → is_integer t ≡ true → is_pointer t ≡ false
-not_pointer ty.Int h = refl
-not_pointer ty.Unsigned h = refl
-not_pointer ty.Char h = refl
-not_pointer ty.Void h = refl
 not_pointer (ty.Pointer t) h = cc
-not_pointer (ty.Array t n) h = refl
+not_pointer t h = refl
 
 -- ---- rules on values
 

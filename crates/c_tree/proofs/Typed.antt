@@ -1,5 +1,6 @@
 -- An expression without a breach has a type.
 use Rattle.std.proofs.Common.{◌≡◌, Bool, true, false, List, [], ◌∷◌, Option, Some, None, is_some, refl, subst, ◌&&◌}
+use Rattle.c_tree.specs.declared.usage.Use.TheVariants.{Value}
 use Rattle.c_tree.specs.declared.operator.Unary.{Unary}
 use Rattle.c_tree.specs.declared.operator.Unary.TheVariants as unary
 use Rattle.c_tree.specs.declared.place.Place.{Place}
@@ -92,21 +93,17 @@ value_typed (ty.Array t n) ps d counts fits b at h k = right_typed b _ (k (count
 
 used_void : (t : Ty) → (is_void t && true) ≡ is_void t
 used_void ty.Void = refl
-used_void ty.Int = refl
-used_void ty.Unsigned = refl
-used_void ty.Char = refl
-used_void (ty.Pointer t) = refl
-used_void (ty.Array t n) = refl
+used_void t = refl
 
 function_typed : (t : Ty) (ps : List Ty) (d counts fits b : Bool) (at : Place)
-    → call_breaches true (Some (FunctionOf t ps d)) counts fits at ≡ []
+    → call_breaches Value (Some (FunctionOf t ps d)) counts fits at ≡ []
     → (counts ≡ true → fits ≡ true → b ≡ true)
     → is_some (where_right b (result_of (Some (FunctionOf t ps d)))) ≡ true
 function_typed t ps d counts fits b at h k =
     value_typed t ps d counts fits b at (subst (λ v. passing_breaches v counts fits at ≡ []) (used_void t) (nil_right (unless d Unknown at) _ h)) k
 
 call_typed : (known : Option Known) (counts fits b : Bool) (at : Place)
-    → call_breaches true known counts fits at ≡ [] → (counts ≡ true → fits ≡ true → b ≡ true)
+    → call_breaches Value known counts fits at ≡ [] → (counts ≡ true → fits ≡ true → b ≡ true)
     → is_some (where_right b (result_of known)) ≡ true
 call_typed None counts fits b at h k = never Unknown at h
 call_typed (Some (ObjectOf t)) counts fits b at h k = never Mismatch at h
@@ -114,33 +111,33 @@ call_typed (Some (FunctionOf t ps d)) counts fits b at h k = function_typed t ps
 
 module _ (scope : Scope) where
   mutual
-    pub typed : (e : Expr) → breaches scope true e ≡ [] → is_some (type_at scope e) ≡ true
+    pub typed : (e : Expr) → breaches scope Value e ≡ [] → is_some (type_at scope e) ≡ true
     typed (expr.Name name at) h = name_typed (look scope name) at h
     typed (expr.Number t n at) h = refl
     typed (expr.Character code at) h = refl
     typed (expr.Eof at) h = refl
-    typed (expr.Unary op a at) h = unary_typed op (is_place a) (type_at scope a) at (typed a (nil_left _ _ h)) (nil_right (breaches scope true a) _ h)
+    typed (expr.Unary op a at) h = unary_typed op (is_place a) (type_at scope a) at (typed a (nil_left _ _ h)) (nil_right (breaches scope Value a) _ h)
     typed (expr.Step how a at) h =
-        let own = nil_right (breaches scope true a) _ h in
+        let own = nil_right (breaches scope Value a) _ h in
         right_typed (is_place a) _ (place_right _ _ at own) (one_typed step_rule (type_at scope a) (typed a (nil_left _ _ h)) (place_possible _ _ at own))
-    typed (expr.Cast to a at) h = one_typed (cast_rule to) (type_at scope a) (typed a (nil_left _ _ h)) (holds _ _ _ (nil_right (breaches scope true a) _ h))
+    typed (expr.Cast to a at) h = one_typed (cast_rule to) (type_at scope a) (typed a (nil_left _ _ h)) (holds _ _ _ (nil_right (breaches scope Value a) _ h))
     typed (expr.Binary op a b at) h =
-        let h1 = nil_right (breaches scope true a) _ h in
-        both_typed (binary_rule op (is_nought a) (is_nought b)) (type_at scope a) (type_at scope b) (typed a (nil_left _ _ h)) (typed b (nil_left _ _ h1)) (holds _ _ _ (nil_right (breaches scope true b) _ h1))
+        let h1 = nil_right (breaches scope Value a) _ h in
+        both_typed (binary_rule op (is_nought a) (is_nought b)) (type_at scope a) (type_at scope b) (typed a (nil_left _ _ h)) (typed b (nil_left _ _ h1)) (holds _ _ _ (nil_right (breaches scope Value b) _ h1))
     typed (expr.Conditional c a b at) h =
-        let h1 = nil_right (breaches scope true c) _ h in
-        let h2 = nil_right (breaches scope true a) _ h1 in
-        let own = holds _ _ _ (nil_right (breaches scope true b) _ h2) in
+        let h1 = nil_right (breaches scope Value c) _ h in
+        let h2 = nil_right (breaches scope Value a) _ h1 in
+        let own = holds _ _ _ (nil_right (breaches scope Value b) _ h2) in
         right_typed (is_test (type_at scope c)) _ (test_typed (type_at scope c) (typed c (nil_left _ _ h)) (left_true _ _ own))
         (both_typed (conditional_rule (is_nought a) (is_nought b)) (type_at scope a) (type_at scope b) (typed a (nil_left _ _ h1)) (typed b (nil_left _ _ h2)) (right_true _ _ own))
     typed (expr.Assign how a b at) h =
-        let h1 = nil_right (breaches scope true a) _ h in
-        let own = nil_right (breaches scope true b) _ h1 in
+        let h1 = nil_right (breaches scope Value a) _ h in
+        let own = nil_right (breaches scope Value b) _ h1 in
         right_typed (is_place a) _ (place_right _ _ at own)
         (both_typed (assign_rule how (is_nought b)) (type_at scope a) (type_at scope b) (typed a (nil_left _ _ h)) (typed b (nil_left _ _ h1)) (place_possible _ _ at own))
     typed (expr.Index a b at) h =
-        let h1 = nil_right (breaches scope true a) _ h in
-        both_typed index_rule (type_at scope a) (type_at scope b) (typed a (nil_left _ _ h)) (typed b (nil_left _ _ h1)) (holds _ _ _ (nil_right (breaches scope true b) _ h1))
+        let h1 = nil_right (breaches scope Value a) _ h in
+        both_typed index_rule (type_at scope a) (type_at scope b) (typed a (nil_left _ _ h)) (typed b (nil_left _ _ h1)) (holds _ _ _ (nil_right (breaches scope Value b) _ h1))
     typed (expr.Call name all at) h =
         call_typed (called scope name) _ _ _ at (nil_right (breaches_in scope all) _ h) (all_typed (parameters_of (called scope name)) all (nil_left _ _ h))
 
@@ -151,4 +148,4 @@ module _ (scope : Scope) where
     all_typed ps (expr.More a rest) h c p =
         and_true _ _
         (takes_typed ps (is_nought a) (type_at scope a) (is_false _ (left_true _ _ c)) (typed a (nil_left _ _ h)) (left_true _ _ p))
-        (all_typed (others ps) rest (nil_right (breaches scope true a) _ h) (right_true _ _ c) (right_true _ _ p))
+        (all_typed (others ps) rest (nil_right (breaches scope Value a) _ h) (right_true _ _ c) (right_true _ _ p))

@@ -1,5 +1,7 @@
 -- The breaches of an expression are of the kinds of typing.
 use Rattle.std.proofs.Common.{◌≡◌, Bool, true, false, ◌&&◌, List, [], ◌∷◌, ◌++◌, Option, Some, None, refl}
+use Rattle.c_tree.specs.declared.usage.Use.{Use}
+use Rattle.c_tree.specs.declared.usage.Use.TheVariants.{Value}
 use Rattle.c_tree.specs.declared.operator.Unary.{Unary}
 use Rattle.c_tree.specs.declared.operator.Unary.TheVariants as unary
 use Rattle.c_tree.specs.declared.place.Place.{Place}
@@ -14,7 +16,7 @@ use Rattle.c_tree.specs.Shapes.{is_void}
 use Rattle.c_tree.specs.Breach.{unless, is_typing}
 use Rattle.c_tree.specs.Rules.{is_place}
 use Rattle.c_tree.specs.Typing.{type_at, called}
-use Rattle.c_tree.specs.Breaches.{breaches, breaches_in, name_breaches, unary_breaches, place_breaches, passing_breaches, call_breaches}
+use Rattle.c_tree.specs.Breaches.{is_used, breaches, breaches_in, name_breaches, unary_breaches, place_breaches, passing_breaches, call_breaches}
 use Rattle.c_tree.proofs.LeastBreach.{HasEach}
 
 pub each-append : (p : Broken → Bool) (xs ys : List Breach) → HasEach p xs → HasEach p ys
@@ -52,30 +54,30 @@ count_kinds true counts fits at = (refl, tt)
 count_kinds false true fits at = each_unless is_typing fits Mismatch at refl
 count_kinds false false fits at = (refl, tt)
 
-call_kinds : (used : Bool) (known : Option Known) (counts fits : Bool) (at : Place)
+call_kinds : (used : Use) (known : Option Known) (counts fits : Bool) (at : Place)
     → HasEach is_typing (call_breaches used known counts fits at)
 call_kinds used None counts fits at = (refl, tt)
 call_kinds used (Some (ObjectOf t)) counts fits at = (refl, tt)
-call_kinds used (Some (FunctionOf t ps d)) counts fits at = each-append is_typing (unless d Unknown at) _ (each_unless is_typing d Unknown at refl) (count_kinds (is_void t && used) counts fits at)
+call_kinds used (Some (FunctionOf t ps d)) counts fits at = each-append is_typing (unless d Unknown at) _ (each_unless is_typing d Unknown at refl) (count_kinds (is_void t && is_used used) counts fits at)
 
 module _ (scope : Scope) where
   mutual
-    pub typing_kinds : (used : Bool) (e : Expr) → HasEach is_typing (breaches scope used e)
+    pub typing_kinds : (used : Use) (e : Expr) → HasEach is_typing (breaches scope used e)
     typing_kinds used (expr.Name name at) = name_kinds (look scope name) at
     typing_kinds used (expr.Number t n at) = tt
     typing_kinds used (expr.Character code at) = tt
     typing_kinds used (expr.Eof at) = tt
-    typing_kinds used (expr.Unary op a at) = each-append is_typing (breaches scope true a) _ (typing_kinds true a) (unary_kinds op (is_place a) (type_at scope a) at)
-    typing_kinds used (expr.Step how a at) = each-append is_typing (breaches scope true a) _ (typing_kinds true a) (place_kinds (is_place a) _ at)
-    typing_kinds used (expr.Cast to a at) = each-append is_typing (breaches scope true a) _ (typing_kinds true a) (each_unless is_typing _ Mismatch at refl)
-    typing_kinds used (expr.Binary op a b at) = each-append is_typing (breaches scope true a) _ (typing_kinds true a) (each-append is_typing (breaches scope true b) _ (typing_kinds true b) (each_unless is_typing _ Mismatch at refl))
+    typing_kinds used (expr.Unary op a at) = each-append is_typing (breaches scope Value a) _ (typing_kinds Value a) (unary_kinds op (is_place a) (type_at scope a) at)
+    typing_kinds used (expr.Step how a at) = each-append is_typing (breaches scope Value a) _ (typing_kinds Value a) (place_kinds (is_place a) _ at)
+    typing_kinds used (expr.Cast to a at) = each-append is_typing (breaches scope Value a) _ (typing_kinds Value a) (each_unless is_typing _ Mismatch at refl)
+    typing_kinds used (expr.Binary op a b at) = each-append is_typing (breaches scope Value a) _ (typing_kinds Value a) (each-append is_typing (breaches scope Value b) _ (typing_kinds Value b) (each_unless is_typing _ Mismatch at refl))
     typing_kinds used (expr.Conditional c a b at) =
-        each-append is_typing (breaches scope true c) _ (typing_kinds true c)
-        (each-append is_typing (breaches scope true a) _ (typing_kinds true a) (each-append is_typing (breaches scope true b) _ (typing_kinds true b) (each_unless is_typing _ Mismatch at refl)))
-    typing_kinds used (expr.Assign how a b at) = each-append is_typing (breaches scope true a) _ (typing_kinds true a) (each-append is_typing (breaches scope true b) _ (typing_kinds true b) (place_kinds (is_place a) _ at))
-    typing_kinds used (expr.Index a b at) = each-append is_typing (breaches scope true a) _ (typing_kinds true a) (each-append is_typing (breaches scope true b) _ (typing_kinds true b) (each_unless is_typing _ Mismatch at refl))
+        each-append is_typing (breaches scope Value c) _ (typing_kinds Value c)
+        (each-append is_typing (breaches scope Value a) _ (typing_kinds Value a) (each-append is_typing (breaches scope Value b) _ (typing_kinds Value b) (each_unless is_typing _ Mismatch at refl)))
+    typing_kinds used (expr.Assign how a b at) = each-append is_typing (breaches scope Value a) _ (typing_kinds Value a) (each-append is_typing (breaches scope Value b) _ (typing_kinds Value b) (place_kinds (is_place a) _ at))
+    typing_kinds used (expr.Index a b at) = each-append is_typing (breaches scope Value a) _ (typing_kinds Value a) (each-append is_typing (breaches scope Value b) _ (typing_kinds Value b) (each_unless is_typing _ Mismatch at refl))
     typing_kinds used (expr.Call name all at) = each-append is_typing (breaches_in scope all) _ (all_kinds all) (call_kinds used (called scope name) _ _ at)
 
     pub all_kinds : (all : Exprs) → HasEach is_typing (breaches_in scope all)
     all_kinds expr.NoMore = tt
-    all_kinds (expr.More a rest) = each-append is_typing (breaches scope true a) _ (typing_kinds true a) (all_kinds rest)
+    all_kinds (expr.More a rest) = each-append is_typing (breaches scope Value a) _ (typing_kinds Value a) (all_kinds rest)

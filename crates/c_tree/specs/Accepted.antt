@@ -1,5 +1,7 @@
 -- The rules that a whole text breaks (C11 6.9), its fault, and the trees that are accepted.
 use Rattle.std.specs.Prelude.{ℕ, Bool, true, false, not, ◌&&◌, ◌||◌, IsTrue, List, [], ◌∷◌, ◌++◌, Option, Some, None, is_some, map, length, nat_le, bytes_eq, codes}
+use Rattle.c_tree.specs.declared.storage.Storage.TheVariants.{Static}
+use Rattle.c_tree.specs.declared.limits.TheConstants.{MOST_PARAMETERS}
 use Rattle.c_tree.specs.declared.breach.Breach.{Breach}
 use Rattle.c_tree.specs.declared.breach.Broken.TheVariants.{Twice, Mismatch, Arguments, NoMain, TooManyParameters}
 use Rattle.c_tree.specs.declared.breach.Ranking.TheVariants.{ForChecks}
@@ -85,11 +87,11 @@ module _ (all : List Item) where
   abbrev pub function_breaches : List Item → Scope → Fun → List Breach
   function_breaches before scope f =
       again_breaches (scope.inner f.name) (result_shape f) (parameter_shapes f.parameters) f.place
-      ++ (unless (nat_le (length f.parameters) 8) TooManyParameters f.place
+      ++ (unless (nat_le (length f.parameters) MOST_PARAMETERS) TooManyParameters f.place
       ++ definition_breaches (is_defined before f.name) (with_function f scope) f f.body)
 
   abbrev pub part_breaches : List Item → Scope → Item → List Breach
-  part_breaches before scope (item.Vars keep ds) = declarators_breaches true scope ds
+  part_breaches before scope (item.Vars keep ds) = declarators_breaches Static scope ds
   part_breaches before scope (item.Fun f) = function_breaches before scope f
 
   abbrev pub behind_part : Item → Scope → Scope

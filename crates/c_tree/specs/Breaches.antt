@@ -1,5 +1,7 @@
 -- The breaches of an expression, in its order.
-use Rattle.std.specs.Prelude.{Bool, true, not, ◌&&◌, ◌||◌, List, [], ◌∷◌, ◌++◌, Option, Some, None, is_some, if◌then◌else◌}
+use Rattle.std.specs.Prelude.{Bool, true, false, not, ◌&&◌, ◌||◌, List, [], ◌∷◌, ◌++◌, Option, Some, None, is_some, if◌then◌else◌}
+use Rattle.c_tree.specs.declared.usage.Use.{Use}
+use Rattle.c_tree.specs.declared.usage.Use.TheVariants.{Value, Discarded}
 use Rattle.c_tree.specs.declared.breach.Breach.{Breach}
 use Rattle.c_tree.specs.declared.breach.Broken.TheVariants.{Unknown, Mismatch, NotAPlace, Arguments}
 use Rattle.c_tree.specs.declared.operator.Unary.{Unary}
@@ -70,12 +72,16 @@ passing_breaches void_used counts fits at =
     else if counts then unless fits Mismatch at
     else breach Arguments at
 
+abbrev pub is_used : Use → Bool
+is_used Value = true
+is_used Discarded = false
+
 -- a function that is called and never defined is unknown
-abbrev pub call_breaches : Bool → Option Known → Bool → Bool → Place → List Breach
+abbrev pub call_breaches : Use → Option Known → Bool → Bool → Place → List Breach
 call_breaches used None counts fits at = breach Unknown at
 call_breaches used (Some (ObjectOf t)) counts fits at = breach Mismatch at
 call_breaches used (Some (FunctionOf t parameters defined)) counts fits at =
-    unless defined Unknown at ++ passing_breaches (is_void t && used) counts fits at
+    unless defined Unknown at ++ passing_breaches (is_void t && is_used used) counts fits at
 
 -- one argument for each parameter
 abbrev pub same_count : List Ty → Exprs → Bool
@@ -93,33 +99,33 @@ module _ (scope : Scope) where
 
   abbrev mutual
     -- the breaches of an expression and of its parts; whether its value is used matters at a call alone
-    pub breaches : Bool → Expr → List Breach
+    pub breaches : Use → Expr → List Breach
     breaches used (expr.Name name at) = name_breaches (look scope name) at
     breaches used (expr.Number shape n at) = []
     breaches used (expr.Character code at) = []
     breaches used (expr.Eof at) = []
     breaches used (expr.Unary op a at) =
-        breaches true a ++ unary_breaches op (is_place a) (type_at scope a) at
+        breaches Value a ++ unary_breaches op (is_place a) (type_at scope a) at
     breaches used (expr.Step how a at) =
-        breaches true a ++ place_breaches (is_place a) (possible_one step_rule (type_at scope a)) at
+        breaches Value a ++ place_breaches (is_place a) (possible_one step_rule (type_at scope a)) at
     breaches used (expr.Cast to a at) =
-        breaches true a ++ unless (possible_one (cast_rule to) (type_at scope a)) Mismatch at
+        breaches Value a ++ unless (possible_one (cast_rule to) (type_at scope a)) Mismatch at
     breaches used (expr.Binary op a b at) =
-        breaches true a ++ (breaches true b
+        breaches Value a ++ (breaches Value b
         ++ unless (possible_both (binary_rule op (is_nought a) (is_nought b)) (type_at scope a)
         (type_at scope b)) Mismatch at)
     breaches used (expr.Conditional c a b at) =
-        breaches true c ++ (breaches true a
-        ++ (breaches true b ++ unless
+        breaches Value c ++ (breaches Value a
+        ++ (breaches Value b ++ unless
         (possible_test (type_at scope c)
         && possible_both (conditional_rule (is_nought a) (is_nought b)) (type_at scope a)
         (type_at scope b)) Mismatch at))
     breaches used (expr.Assign how a b at) =
-        breaches true a ++ (breaches true b
+        breaches Value a ++ (breaches Value b
         ++ place_breaches (is_place a)
         (possible_both (assign_rule how (is_nought b)) (type_at scope a) (type_at scope b)) at)
     breaches used (expr.Index a b at) =
-        breaches true a ++ (breaches true b
+        breaches Value a ++ (breaches Value b
         ++ unless (possible_both index_rule (type_at scope a) (type_at scope b)) Mismatch at)
     breaches used (expr.Call name all at) =
         breaches_in all ++ call_breaches used (called scope name)
@@ -128,4 +134,4 @@ module _ (scope : Scope) where
 
     pub breaches_in : Exprs → List Breach
     breaches_in expr.NoMore = []
-    breaches_in (expr.More a rest) = breaches true a ++ breaches_in rest
+    breaches_in (expr.More a rest) = breaches Value a ++ breaches_in rest

@@ -1,5 +1,7 @@
 -- Constants: their type, their value, and the breaches where one is needed (C11 6.6).
 use Rattle.std.specs.Prelude.{ℕ, Bool, true, false, not, ◌&&◌, ◌||◌, ◌==◌, List, [], ◌++◌, Option, Some, None, is_some, if◌then◌else◌}
+use Rattle.c_tree.specs.declared.usage.Use.TheVariants.{Value}
+use Rattle.c_tree.specs.declared.limits.TheConstants.{END_OF_FILE}
 use Rattle.c_tree.specs.declared.breach.Breach.{Breach}
 use Rattle.c_tree.specs.declared.breach.Broken.TheVariants.{Unknown, NotConstant}
 use Rattle.c_tree.specs.declared.operator.Binary.{Binary}
@@ -77,7 +79,7 @@ chosen none (Some x) a b = if x == 0 then b else a
 abbrev pub value_of : Expr → Option ℕ
 value_of (expr.Number shape n at) = if is_integer shape then Some n else None
 value_of (expr.Character code at) = Some code
-value_of (expr.Eof at) = Some 4294967295
+value_of (expr.Eof at) = Some END_OF_FILE
 value_of (expr.Unary op a at) =
     if is_arithmetic op then on_one (λ x. given (unary_word op (is_unsigned (constant_shape a)) x))
     (value_of a) else None
@@ -108,7 +110,7 @@ foreign_name (Some scope) name at = name_breach (is_some (look scope name)) at
 -- what another node that is no form of a constant breaks
 abbrev pub foreign : Option Scope → Expr → Place → List Breach
 foreign None e at = breach NotConstant at
-foreign (Some scope) e at = breaches scope true e ++ breach NotConstant at
+foreign (Some scope) e at = breaches scope Value e ++ breach NotConstant at
 
 module _ (scope : Option Scope) where
   -- the breaches where a constant is needed: the outermost nodes that are no form of one, and the undefined acts that are evaluated;

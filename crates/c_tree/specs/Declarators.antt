@@ -1,5 +1,8 @@
 -- Declarators: the types that they declare, and the rules that they break (C11 6.7.6, 6.7.9).
 use Rattle.std.specs.Prelude.{ℕ, zero, suc, ◌==◌, Bool, true, false, not, ◌&&◌, ◌||◌, List, [], ◌∷◌, ◌++◌, Option, Some, None, is_some, nat_le, if◌then◌else◌}
+use Rattle.c_tree.specs.declared.storage.Storage.{Storage}
+use Rattle.c_tree.specs.declared.storage.Storage.TheVariants.{Static, Automatic}
+use Rattle.c_tree.specs.declared.usage.Use.TheVariants.{Value}
 use Rattle.c_tree.specs.declared.breach.Breach.{Breach}
 use Rattle.c_tree.specs.declared.breach.Broken.TheVariants.{Twice, Mismatch}
 use Rattle.c_tree.specs.Ty.{Ty}
@@ -105,24 +108,24 @@ global_init_breaches scope d (Some (initial.Many values)) =
 abbrev pub local_init_breaches : Scope → Var → Option Init → List Breach
 local_init_breaches scope d None = []
 local_init_breaches scope d (Some (initial.One e)) =
-    breaches scope true e ++ unless
+    breaches scope Value e ++ unless
     (may_take (declared_shape d) (is_nought e) (type_at scope e)) Mismatch d.place
 local_init_breaches scope d (Some (initial.Many values)) =
     breaches_in scope values ++ breach Mismatch d.place
 
-abbrev pub init_breaches : Bool → Scope → Var → List Breach
-init_breaches global scope d =
-    if global then global_init_breaches scope d d.init else local_init_breaches scope d d.init
+abbrev pub init_breaches : Storage → Scope → Var → List Breach
+init_breaches Static scope d = global_init_breaches scope d d.init
+init_breaches Automatic scope d = local_init_breaches scope d d.init
 
 -- A declarator's name is in scope in its initialiser, and not in its sizes (6.2.1).
-abbrev pub declarator_breaches : Bool → Scope → Var → List Breach
-declarator_breaches global scope d =
+abbrev pub declarator_breaches : Storage → Scope → Var → List Breach
+declarator_breaches storage scope d =
     constants_breaches scope d.sizes
     ++ (unless (not (is_some (scope.inner d.name))) Twice d.place
     ++ (unless (fit_sizes d.sizes) Mismatch d.place
-    ++ init_breaches global (with_declarator d scope) d))
+    ++ init_breaches storage (with_declarator d scope) d))
 
-abbrev pub declarators_breaches : Bool → Scope → List Var → List Breach
-declarators_breaches global scope [] = []
-declarators_breaches global scope (d ∷ ds) =
-    declarator_breaches global scope d ++ declarators_breaches global (with_declarator d scope) ds
+abbrev pub declarators_breaches : Storage → Scope → List Var → List Breach
+declarators_breaches storage scope [] = []
+declarators_breaches storage scope (d ∷ ds) =
+    declarator_breaches storage scope d ++ declarators_breaches storage (with_declarator d scope) ds

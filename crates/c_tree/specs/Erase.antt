@@ -8,18 +8,13 @@ use Rattle.c_tree.specs.Item as item
 -- each marker becomes the empty statement at its place, and all else stays
 abbrev mutual
   pub erased : Stmt → Stmt
-  erased (stmt.Empty at) = stmt.Empty at
-  erased (stmt.Expr e at) = stmt.Expr e at
-  erased (stmt.Vars ds at) = stmt.Vars ds at
-  erased (stmt.Block body at) = stmt.Block (erased_all body) at
   erased (stmt.Marker m at) = stmt.Empty at
+  erased (stmt.Block body at) = stmt.Block (erased_all body) at
   erased (stmt.If c s other at) = stmt.If c (erased s) (erased_else other) at
   erased (stmt.While c s at) = stmt.While c (erased s) at
   erased (stmt.Do s c at) = stmt.Do (erased s) c at
   erased (stmt.For f c d s at) = stmt.For f c d (erased s) at
-  erased (stmt.Return value at) = stmt.Return value at
-  erased (stmt.Break at) = stmt.Break at
-  erased (stmt.Continue at) = stmt.Continue at
+  erased s = s
 
   pub erased_else : ElseBranch → ElseBranch
   erased_else stmt.NoElse = stmt.NoElse

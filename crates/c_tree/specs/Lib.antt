@@ -1,5 +1,6 @@
 pub mod Accepted
 pub mod Arithmetic
+pub mod Blocks
 pub mod Breach
 pub mod Breaches
 pub mod Collect
@@ -9,6 +10,7 @@ pub mod Declarators
 pub mod Erase
 pub mod Expr
 pub mod First
+pub mod FirstOperand
 pub mod Fun
 pub mod Groups
 pub mod HasType
@@ -25,4 +27,3 @@ pub mod Ty
 pub mod Typing
 pub mod Var
 pub mod View
-pub mod private

@@ -23,18 +23,13 @@ edge block (marker.Post channel name name_at n) at = []
 -- the edges in the order of the text
 abbrev mutual
   pub edges : Option Place → Stmt → List Edge
-  edges block (stmt.Empty at) = []
-  edges block (stmt.Expr e at) = []
-  edges block (stmt.Vars ds at) = []
-  edges block (stmt.Block body at) = body_edges (Some at) body
   edges block (stmt.Marker m at) = edge block m at
+  edges block (stmt.Block body at) = body_edges (Some at) body
   edges block (stmt.If c s other at) = edges None s ++ else_edges other
   edges block (stmt.While c s at) = edges None s
   edges block (stmt.Do s c at) = edges None s
   edges block (stmt.For f c d s at) = edges None s
-  edges block (stmt.Return value at) = []
-  edges block (stmt.Break at) = []
-  edges block (stmt.Continue at) = []
+  edges block s = []
 
   pub else_edges : ElseBranch → List Edge
   else_edges stmt.NoElse = []

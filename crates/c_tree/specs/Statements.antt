@@ -1,5 +1,8 @@
 -- The rules that statements break (C11 6.8).
 use Rattle.std.specs.Prelude.{Bool, true, false, not, ◌&&◌, List, [], ◌++◌, Option, Some, None, nat_lt}
+use Rattle.c_tree.specs.declared.storage.Storage.TheVariants.{Automatic}
+use Rattle.c_tree.specs.declared.usage.Use.TheVariants.{Value, Discarded}
+use Rattle.c_tree.specs.declared.limits.TheConstants.{REGIONS, CHANNELS}
 use Rattle.c_tree.specs.declared.breach.Breach.{Breach}
 use Rattle.c_tree.specs.declared.breach.Broken.TheVariants.{Unknown, Mismatch, Marker as BadMarker}
 use Rattle.c_tree.specs.declared.place.Place.{Place}
@@ -34,7 +37,7 @@ behind_beginning f scope = scope
 -- a condition, whose mismatch stands at its statement
 abbrev pub test_breaches : Scope → Expr → Place → List Breach
 test_breaches scope c at =
-    breaches scope true c ++ unless (possible_test (type_at scope c)) Mismatch at
+    breaches scope Value c ++ unless (possible_test (type_at scope c)) Mismatch at
 
 abbrev pub optional_test_breaches : Scope → Option Expr → Place → List Breach
 optional_test_breaches scope None at = []
@@ -43,18 +46,18 @@ optional_test_breaches scope (Some c) at = test_breaches scope c at
 -- an expression whose value isn't used
 abbrev pub unused_breaches : Scope → Option Expr → List Breach
 unused_breaches scope None = []
-unused_breaches scope (Some e) = breaches scope false e
+unused_breaches scope (Some e) = breaches scope Discarded e
 
 abbrev pub beginning_breaches : Scope → First → List Breach
 beginning_breaches scope for_first.Nothing = []
-beginning_breaches scope (for_first.Vars ds) = declarators_breaches false scope ds
-beginning_breaches scope (for_first.Expr e) = breaches scope false e
+beginning_breaches scope (for_first.Vars ds) = declarators_breaches Automatic scope ds
+beginning_breaches scope (for_first.Expr e) = breaches scope Discarded e
 
 -- a value is returned where the function has a result, and as an assignment to it (6.8.6.4)
 abbrev pub return_breaches : Scope → Ty → Option Expr → Place → List Breach
 return_breaches scope result None at = unless (is_void result) Mismatch at
 return_breaches scope result (Some e) at =
-    breaches scope true e ++ unless
+    breaches scope Value e ++ unless
     (not (is_void result) && may_take result (is_nought e) (type_at scope e)) Mismatch at
 
 -- a name in a marker: a variable of a type that the test allows
@@ -76,13 +79,13 @@ count_breaches scope (count.Number n) at = []
 count_breaches scope (count.Name name name_at) at =
     named_breaches is_int (look scope name) name_at at
 
--- numbers of regions are below 256, and channels below 64
+-- Regions and channels have numbers below their limits.
 abbrev pub marker_breaches : Scope → Marker → Place → List Breach
-marker_breaches scope (marker.Begin k) at = unless (nat_lt k 256) BadMarker at
-marker_breaches scope (marker.End k) at = unless (nat_lt k 256) BadMarker at
-marker_breaches scope (marker.Wait channel) at = unless (nat_lt channel 64) BadMarker at
+marker_breaches scope (marker.Begin k) at = unless (nat_lt k REGIONS) BadMarker at
+marker_breaches scope (marker.End k) at = unless (nat_lt k REGIONS) BadMarker at
+marker_breaches scope (marker.Wait channel) at = unless (nat_lt channel CHANNELS) BadMarker at
 marker_breaches scope (marker.Post channel name name_at n) at =
-    unless (nat_lt channel 64) BadMarker at
+    unless (nat_lt channel CHANNELS) BadMarker at
     ++ (named_breaches is_sent (look scope name) name_at at ++ count_breaches scope n at)
 
 -- The statements of a function with a result; a flag says that a loop is round them. What is under an `if` or a loop is a block (6.8.4, 6.8.5).
@@ -90,8 +93,8 @@ module _ (result : Ty) where
   abbrev mutual
     pub statement_breaches : Bool → Stmt → Scope → List Breach
     statement_breaches loop (stmt.Empty at) scope = []
-    statement_breaches loop (stmt.Expr e at) scope = breaches scope false e
-    statement_breaches loop (stmt.Vars ds at) scope = declarators_breaches false scope ds
+    statement_breaches loop (stmt.Expr e at) scope = breaches scope Discarded e
+    statement_breaches loop (stmt.Vars ds at) scope = declarators_breaches Automatic scope ds
     statement_breaches loop (stmt.Block body at) scope = body_breaches loop body (entered scope)
     statement_breaches loop (stmt.Marker m at) scope = marker_breaches scope m at
     statement_breaches loop (stmt.If c s other at) scope =

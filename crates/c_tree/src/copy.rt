@@ -1,8 +1,8 @@
 //! Equal trees in memory of their own.
 
-ghost use Rattle.std.specs.Prelude.{◌≡◌, false, map, option_map, IfOk};
+ghost use Rattle.std.specs.Prelude.{◌≡◌, None, map, option_map, IfOk};
 ghost use Rattle.c_tree.specs.View.{expr_of, init_of, var_of, first_of, param_of};
-ghost use Rattle.c_tree.specs.private.FirstOperand.{has_first, with_first};
+ghost use Rattle.c_tree.specs.FirstOperand.{first_operand, with_first};
 
 use crate::OutOfMemory;
 use crate::spine::Spine;
@@ -29,7 +29,7 @@ fn operand(alloc: Global, e: &Expr) -> Result<Box<Expr>, OutOfMemory>
 /// An expression that has no first operand, again.
 #[cycle(expr)]
 fn end(alloc: Global, e: &Expr) -> Result<Expr, OutOfMemory>
-    requires { has_first (expr_of e.now) ≡ false }
+    requires { first_operand (expr_of e.now) ≡ None }
     ensures { IfOk result (λ copy. expr_of copy ≡ expr_of e.now) }
 {
     let place = e.place;

@@ -1,12 +1,21 @@
-//! Laws of erasing markers.
+//! Laws of limits and of erasing markers.
 
 ghost use Rattle.std.specs.Prelude.{◌≡◌, List, []};
+ghost use Rattle.c_tree.specs.declared.limits.TheConstants.{CHANNELS, END_OF_FILE, MOST_PARAMETERS, REGIONS};
 ghost use Rattle.c_tree.specs.declared.tree.Tree.{Tree};
 ghost use Rattle.c_tree.specs.Item.{Item};
 ghost use Rattle.c_tree.specs.View.{items_of};
 ghost use Rattle.c_tree.specs.Accepted.{Accepted};
 ghost use Rattle.c_tree.specs.Erase.{erased_text};
 ghost use Rattle.c_tree.specs.Markers.{text_markers};
+
+/// Limits and fixed values in numbers.
+pub fn limits_in_numbers()
+    ensures channels { CHANNELS ≡ 64 }
+    ensures end_of_file { END_OF_FILE ≡ 4294967295 }
+    ensures parameters { MOST_PARAMETERS ≡ 8 }
+    ensures regions { REGIONS ≡ 256 }
+{}
 
 /// An erased text has no marker.
 pub fn erased_text_has_no_marker()

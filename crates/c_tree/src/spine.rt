@@ -1,10 +1,10 @@
 //! The first operands of an expression, each within the one before.
 
-ghost use Rattle.std.specs.Prelude.{◌≡◌, ◌<◌, ◌≤◌, Some, None, false, map, All, IfOk, MatchOption};
+ghost use Rattle.std.specs.Prelude.{◌≡◌, ◌<◌, ◌≤◌, Some, None, map, All, IfOk, MatchOption};
 ghost use Rattle.std.specs.Option.{option_copied};
 ghost use Rattle.c_tree.specs.declared.tree.Expr.{size-Expr};
 ghost use Rattle.c_tree.specs.View.{expr_of};
-ghost use Rattle.c_tree.specs.private.FirstOperand.{has_first, with_first, within};
+ghost use Rattle.c_tree.specs.FirstOperand.{first_operand, within};
 
 use crate::OutOfMemory;
 use crate::tree::{Expr, ExprKind};
@@ -17,26 +17,27 @@ pub(crate) struct Spine<'a> {
     pub(crate) end: &'a Expr,
 }
 
-/// The first operand of an expression that has operands.
-fn first_operand(e: &Expr) -> Option<&Expr>
-    ensures value { MatchOption (option_copied result) (has_first (expr_of e.now) ≡ false)
-        (λ a. with_first (expr_of e.now) (expr_of a) ≡ expr_of e.now) }
-    ensures smaller { MatchOption (option_copied result) (has_first (expr_of e.now) ≡ false)
+/// The first operand of an expression, where it has operands.
+#[tactic(auto, using(crate::proofs::ViewLemmas::views))]
+pub fn first_operand(e: &Expr) -> Option<&Expr>
+    ensures value { MatchOption (option_copied result) (first_operand (expr_of e.now) ≡ None)
+        (λ a. first_operand (expr_of e.now) ≡ Some (expr_of a)) }
+    ensures smaller { MatchOption (option_copied result) (Unit {0})
         (λ a. size-Expr a < size-Expr e.now) }
 {
     match &e.kind {
-        ExprKind::Name(_) => None,
-        ExprKind::Number(_, _) => None,
-        ExprKind::Character(_) => None,
-        ExprKind::Eof => None,
-        ExprKind::Unary(_, a) => Some(a),
-        ExprKind::Step(_, a) => Some(a),
-        ExprKind::Cast(_, a) => Some(a),
-        ExprKind::Binary(_, a, _) => Some(a),
-        ExprKind::Conditional(c, _, _) => Some(c),
-        ExprKind::Assign(_, a, _) => Some(a),
-        ExprKind::Index(a, _) => Some(a),
-        ExprKind::Call(_, _) => None,
+        ExprKind::Unary(_, a)
+        | ExprKind::Step(_, a)
+        | ExprKind::Cast(_, a)
+        | ExprKind::Binary(_, a, _)
+        | ExprKind::Conditional(a, _, _)
+        | ExprKind::Assign(_, a, _)
+        | ExprKind::Index(a, _) => Some(a),
+        ExprKind::Name(_)
+        | ExprKind::Number(_, _)
+        | ExprKind::Character(_)
+        | ExprKind::Eof
+        | ExprKind::Call(_, _) => None,
     }
 }
 
@@ -47,7 +48,7 @@ impl<'a> Spine<'a> {
         ensures whole { IfOk result
             (λ s. within (map (λ n. expr_of n.now) s.above.items) (expr_of s.end.now)
             ≡ expr_of e.now) }
-        ensures ends { IfOk result (λ s. has_first (expr_of s.end.now) ≡ false) }
+        ensures ends { IfOk result (λ s. first_operand (expr_of s.end.now) ≡ None) }
         ensures small { IfOk result
             (λ s. (size-Expr s.end.now ≤ size-Expr e.now)
             × All (λ n. size-Expr n.now ≤ size-Expr e.now) s.above.items) }

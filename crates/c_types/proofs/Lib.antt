@@ -1,7 +1,2 @@
-mod Closing
-mod Declaring
-pub mod Descent
+pub mod EnvLemmas
 pub mod TypeFaultsLemmas
-mod ScopeFrames
-pub mod Keys
-mod IndexNumbers

@@ -9,15 +9,12 @@ ghost use Rattle.c_tree.specs.Rules.{where_right};
 ghost use Rattle.c_tree.specs.Typing.{called, result_of, parameters_of, is_none_left, others, is_taken, takes_first};
 ghost use Rattle.c_tree.specs.Breaches.{may_take, may_take_first, passing_breaches, call_breaches};
 ghost use Rattle.c_types.specs.Env.{scope_of, known};
-ghost use Rattle.c_types.specs.Seen.{seen, seen_some};
+ghost use Rattle.c_rules.specs.Seen.{seen, seen_some};
 ghost use Rattle.c_types.specs.Call.{target, parameters};
 
-use crate::block::Known;
-use crate::env::Env;
-use crate::least::note;
-use crate::rules::{is_taken, may_take};
-use crate::seen::{Base, Seen, is_void};
-use c_tree::{Broken, CType, Callee, Least, Place};
+use crate::env::{Env, Known};
+use c_rules::{Base, Seen, is_taken, is_void, may_take, note};
+use c_tree::{Broken, CType, Callee, Least, Place, Use};
 
 /// What a call names.
 #[derive(Clone, Copy)]
@@ -189,7 +186,7 @@ fn note_call(is_void_used: bool, passed: Passed, at: Place, least: &mut Least)
 
 fn call_known<'a>(
     found: Option<&'a Known>,
-    used: bool,
+    used: Use,
     passed: Passed,
     at: Place,
     least: &mut Least,
@@ -218,7 +215,7 @@ fn call_known<'a>(
         ) => {
             let void = is_void(gives);
             note(least, *is_defined, Broken::Unknown, at);
-            note_call(void && used, passed, at, least);
+            note_call(void && matches!(used, Use::Value), passed, at, least);
             if passed.typed && !void {
                 Some(Seen::of(gives))
             } else {
@@ -243,7 +240,7 @@ fn call_built_in<'a>(passed: Passed, at: Place, least: &mut Least) -> Option<See
 /// The type of a call's value, where it has one.
 pub fn type_call<'a>(
     name: Target<'a>,
-    used: bool,
+    used: Use,
     passed: Passed,
     at: Place,
     least: &mut Least,

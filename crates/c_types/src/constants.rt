@@ -8,19 +8,17 @@ ghost use Rattle.c_tree.specs.Breach.{least_of, Adds};
 ghost use Rattle.c_tree.specs.Shapes.{common, is_unsigned, is_integer};
 ghost use Rattle.c_tree.specs.Arithmetic.{converted, given, unary_word};
 ghost use Rattle.c_tree.specs.Constant.{unary_shape, binary_shape, integer_shape, constant_shape, is_unsigned_act, on_one, needs_second, binary_value, chosen, value_of, is_ready, act_breaches, foreign_name, foreign, constant_breaches};
-ghost use Rattle.c_types.specs.ConstantAnswers.{integer};
+ghost use Rattle.c_rules.specs.IntegerTypes.{integer};
 ghost use Rattle.c_types.specs.Env.{scope_of};
-ghost use Rattle.c_types.specs.Spine.{constant_operand, below, down};
+ghost use Rattle.c_rules.specs.Spine.{constant_operand, below, down};
 
 use crate::env::Env;
-use crate::integers::{
-    Integer, binary_type, binary_value, is_ready, is_unsigned_act, needs_second,
-};
-use crate::least::note;
-use crate::spine::{Along, LIMIT, descend, follow, is_arithmetic, is_integer};
 use crate::typing::walk;
-use crate::words::{convert, unary_word};
-use c_tree::{Binary, Broken, CType, Expr, ExprKind, Least, Name, Place, Unary};
+use c_rules::{
+    Along, Integer, LIMIT, binary_type, binary_value, convert, descend, follow, is_arithmetic,
+    is_integer, is_ready, is_unsigned_act, needs_second, note, unary_word,
+};
+use c_tree::{Binary, Broken, CType, END_OF_FILE, Expr, ExprKind, Least, Name, Place, Unary, Use};
 
 /// What is known of an expression as a constant: its type, and its value where it has one.
 #[derive(Clone, Copy, Debug, PartialEq, Eq)]
@@ -170,7 +168,7 @@ fn note_foreign(e: &Expr, env: Option<&Env>, least: &mut Least)
         (foreign (option_map scope_of (option_copied env.entry)) (expr_of e.now) e.now.place) }
 {
     if let Some(env) = env {
-        let _ty = walk(e, env, true, least);
+        let _ty = walk(e, env, Use::Value, least);
     }
     note(least, false, Broken::NotConstant, e.place);
 }
@@ -202,33 +200,18 @@ fn evaluate_leaf(e: &Expr, live: bool, env: Option<&Env>, least: &mut Least) -> 
         },
         ExprKind::Eof => Evaluation {
             ty: Integer::Int,
-            value: Some(0xFFFF_FFFF),
+            value: Some(END_OF_FILE),
         },
         ExprKind::Name(name) => {
             note_name(name, env, e.place, least);
             NO_CONSTANT
         }
-        ExprKind::Unary(_, _) => {
-            note_foreign(e, env, least);
-            NO_CONSTANT
-        }
-        ExprKind::Cast(_, _) => {
-            note_foreign(e, env, least);
-            NO_CONSTANT
-        }
-        ExprKind::Step(_, _) => {
-            note_foreign(e, env, least);
-            NO_CONSTANT
-        }
-        ExprKind::Assign(_, _, _) => {
-            note_foreign(e, env, least);
-            NO_CONSTANT
-        }
-        ExprKind::Index(_, _) => {
-            note_foreign(e, env, least);
-            NO_CONSTANT
-        }
-        ExprKind::Call(_, _) => {
+        ExprKind::Unary(_, _)
+        | ExprKind::Cast(_, _)
+        | ExprKind::Step(_, _)
+        | ExprKind::Assign(_, _, _)
+        | ExprKind::Index(_, _)
+        | ExprKind::Call(_, _) => {
             note_foreign(e, env, least);
             NO_CONSTANT
         }

@@ -7,7 +7,7 @@ ghost use Rattle.c_tree.specs.Declarators.{pointers, count_of, sized, pointer_wh
 ghost use Rattle.c_tree.specs.View.{expr_of, exprs_of, param_of, ty_of};
 
 use crate::constants::evaluate;
-use crate::least::none_found;
+use c_rules::none_found;
 use c_tree::{CType, Expr, OutOfMemory, Param, Ranking};
 use std::alloc::Global;
 

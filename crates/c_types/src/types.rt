@@ -14,21 +14,21 @@ ghost use Rattle.c_types.specs.TypeFaults.{IsFault};
 use crate::constants::evaluate;
 use crate::env::Env;
 use crate::fault::{TypeFault, fault_of};
-use crate::least::none_found;
 use crate::typing::walk;
-use c_tree::{CType, Expr, Ranking};
+use c_rules::none_found;
+use c_tree::{CType, Expr, Ranking, Use};
 use std::alloc::Global;
 
 /// The type of an expression whose value is used (C11 6.5), or its least breach.
 pub fn type_of(alloc: Global, expr: &Expr, env: &Env) -> Result<CType, TypeFault>
     ensures { MatchResult result
         (λ ty. (type_at (scope_of env.now) (expr_of expr.now) ≡ Some (ty_of ty))
-        × (breaches (scope_of env.now) true (expr_of expr.now) ≡ []))
+        × (breaches (scope_of env.now) Use.Value (expr_of expr.now) ≡ []))
         (λ fault. IsFault fault (least_of (nothing_found Ranking.ForTypes)
-        (breaches (scope_of env.now) true (expr_of expr.now))).found) }
+        (breaches (scope_of env.now) Use.Value (expr_of expr.now))).found) }
 {
     let mut least = none_found(Ranking::ForTypes);
-    let ty = walk(expr, env, true, &mut least);
+    let ty = walk(expr, env, Use::Value, &mut least);
     if let Some(breach) = least.found {
         return Err(fault_of(breach));
     }

@@ -9,18 +9,18 @@ ghost use Rattle.c_tree.specs.Rules.{is_place, is_nought, is_at, address_type, w
 ghost use Rattle.c_tree.specs.Typing.{type_at, all_taken, object, one, both, unary_type, is_test};
 ghost use Rattle.c_tree.specs.Breaches.{breaches, breaches_in, name_breaches, unary_breaches, place_breaches, possible_one, possible_both, possible_test, same_count, all_possible};
 ghost use Rattle.c_types.specs.Env.{scope_of, known};
-ghost use Rattle.c_types.specs.Seen.{seen_some, is_flat, part_rule, rule_of, is_contents};
+ghost use Rattle.c_rules.specs.Seen.{seen_some, is_flat, part_rule, rule_of, is_contents};
 ghost use Rattle.c_types.specs.Call.{parameters};
-ghost use Rattle.c_types.specs.Spine.{first_operand, below, down};
+ghost use Rattle.c_tree.specs.FirstOperand.{first_operand};
+ghost use Rattle.c_rules.specs.Spine.{below, down};
 
-use crate::block::Known;
 use crate::call::{Parameters, Passed, Target, type_call};
-use crate::env::Env;
-use crate::least::note;
-use crate::rules::{PartRule, Rule, index_result};
-use crate::seen::{Base, Seen};
-use crate::spine::{Along, LIMIT, descend, follow, is_integer, operand};
-use c_tree::{Broken, CType, Expr, ExprKind, Least, Place, Unary};
+use crate::env::{Env, Known};
+use c_rules::{
+    Along, Base, LIMIT, PartRule, Rule, Seen, descend, follow, index_result, is_integer, note,
+    operand,
+};
+use c_tree::{Broken, CType, Expr, ExprKind, Least, Place, Unary, Use};
 
 /// Whether an expression is a place.
 #[tactic(auto, using(c_tree::proofs::ViewLemmas::views))]
@@ -293,7 +293,7 @@ fn type_arguments<'a>(
     };
     let mut rest = taken;
     for arg in args {
-        let ty = walk(arg, env, true, least);
+        let ty = walk(arg, env, Use::Value, least);
         passed = rest.pass(passed, is_nought(arg), ty);
         rest = rest.others();
     }
@@ -303,7 +303,7 @@ fn type_arguments<'a>(
 /// The type of an expression without a first operand.
 #[cycle(types)]
 #[tactic(auto, using(c_tree::proofs::ViewLemmas::views, c_tree::proofs::LeastBreach::append_rules))]
-fn type_leaf<'a>(e: &'a Expr, env: &'a Env, used: bool, least: &mut Least) -> Option<Seen<'a>>
+fn type_leaf<'a>(e: &'a Expr, env: &'a Env, used: Use, least: &mut Least) -> Option<Seen<'a>>
     requires { first_operand (expr_of e.now) ≡ None }
     ensures ty { seen_some result ≡ type_at (scope_of env.now) (expr_of e.now) }
     ensures flat { is_place (expr_of e.now) ≡ true → is_flat result ≡ true }
@@ -339,8 +339,8 @@ fn type_above<'a>(
     ensures flat { is_place (expr_of e.now) ≡ true → is_flat result ≡ true }
     ensures least { (start : Least)
         → least.old ≡ least_of start
-        (breaches (scope_of env.now) true (below Along.Operands (expr_of e.now)))
-        → least.new ≡ least_of start (breaches (scope_of env.now) true (expr_of e.now)) }
+        (breaches (scope_of env.now) Use.Value (below Along.Operands (expr_of e.now)))
+        → least.new ≡ least_of start (breaches (scope_of env.now) Use.Value (expr_of e.now)) }
 {
     match &e.kind {
         ExprKind::Name(_) => first,
@@ -352,23 +352,23 @@ fn type_above<'a>(
         ExprKind::Step(_, a) => type_step(is_place(a), first, e.place, least),
         ExprKind::Cast(to, _) => part(PartRule::Cast(to), first, e.place, least),
         ExprKind::Binary(op, a, b) => {
-            let second = walk(b, env, true, least);
+            let second = walk(b, env, Use::Value, least);
             let rule = Rule::Binary(*op, is_nought(a), is_nought(b));
             parts(rule, first, second, e.place, least)
         }
         ExprKind::Conditional(_, a, b) => {
-            let left = walk(a, env, true, least);
-            let right = walk(b, env, true, least);
+            let left = walk(a, env, Use::Value, least);
+            let right = walk(b, env, Use::Value, least);
             let rule = Rule::Conditional(is_nought(a), is_nought(b));
             type_conditional(rule, first, left, right, e.place, least)
         }
         ExprKind::Assign(how, a, b) => {
-            let second = walk(b, env, true, least);
+            let second = walk(b, env, Use::Value, least);
             let rule = Rule::Assign(*how, is_nought(b));
             type_assign(is_place(a), rule, first, second, e.place, least)
         }
         ExprKind::Index(_, b) => {
-            let second = walk(b, env, true, least);
+            let second = walk(b, env, Use::Value, least);
             type_index(first, second, e.place, least)
         }
     }
@@ -391,8 +391,8 @@ fn rise<'a>(
     ensures flat { is_place (expr_of e.now) ≡ true → is_flat result ≡ true }
     ensures least { (start : Least)
         → least.old ≡ least_of start
-        (breaches (scope_of env.now) true (down Along.Operands count (expr_of e.now)))
-        → least.new ≡ least_of start (breaches (scope_of env.now) true (expr_of e.now)) }
+        (breaches (scope_of env.now) Use.Value (down Along.Operands count (expr_of e.now)))
+        → least.new ≡ least_of start (breaches (scope_of env.now) Use.Value (expr_of e.now)) }
 {
     let mut ty = end;
     let mut left = count;
@@ -406,7 +406,7 @@ fn rise<'a>(
 
 /// The type of an expression, where it has one. Its breaches go into `least`. Of a call it says whether the value is used.
 #[cycle(types)]
-pub fn walk<'a>(e: &'a Expr, env: &'a Env, used: bool, least: &mut Least) -> Option<Seen<'a>>
+pub fn walk<'a>(e: &'a Expr, env: &'a Env, used: Use, least: &mut Least) -> Option<Seen<'a>>
     ensures ty { seen_some result ≡ type_at (scope_of env.now) (expr_of e.now) }
     ensures flat { is_place (expr_of e.now) ≡ true → is_flat result ≡ true }
     ensures least { Adds least.old least.new (breaches (scope_of env.now) used (expr_of e.now)) }
@@ -416,10 +416,10 @@ pub fn walk<'a>(e: &'a Expr, env: &'a Env, used: bool, least: &mut Least) -> Opt
     };
     let lowest = follow(Along::Operands, e);
     if lowest.count < LIMIT {
-        let end = type_leaf(lowest.end, env, true, least);
+        let end = type_leaf(lowest.end, env, Use::Value, least);
         rise(e, lowest.count, end, env, least)
     } else {
-        let end = walk(lowest.end, env, true, least);
+        let end = walk(lowest.end, env, Use::Value, least);
         rise(e, lowest.count, end, env, least)
     }
 }

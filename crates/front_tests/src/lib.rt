@@ -2,18 +2,4 @@
 #![tactic(auto)]
 
 #[cfg(test)]
-mod checks;
-#[cfg(test)]
-mod expressions;
-#[cfg(test)]
-mod items;
-#[cfg(test)]
-mod layouts;
-#[cfg(test)]
-mod read;
-#[cfg(test)]
-mod tokens;
-#[cfg(test)]
-mod trees;
-#[cfg(test)]
-mod types;
+mod tests;

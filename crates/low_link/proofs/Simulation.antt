@@ -9,7 +9,9 @@ use Rattle.rv_code.specs.declared.instr.Instr.TheVariants.{Lui, Addi, Ecall}
 use Rattle.rv_code.specs.declared.stop.Stop.TheVariants.{Exit}
 use Rattle.rv_code.specs.Table.{IsInstr, word_of}
 use Rattle.rv_code.specs.State.{State, Running, start, register, with_register, stop_of, output_of}
-use Rattle.rv_code.specs.Step.{address_of, calls, step, sum_32}
+use Rattle.rv_code.specs.Effects.{call_of}
+use Rattle.rv_code.specs.Step.{address_of, halts, puts, calls, step}
+use Rattle.rv_code.specs.Word.{sum}
 use Rattle.rv_code.specs.SequentialRun.{run, seq}
 use Rattle.rv_code.proofs.SequentialRunLemmas.{run-zero, run-add}
 use Rattle.rv_code.proofs.StepLemmas.{step-at}
@@ -33,11 +35,11 @@ pub record Comes (code input : List ℕ) (k : ℕ) (s : State) (place : ℕ) (ou
 -- a state with a register written, at the next word
 pub wrote : State → ℕ → ℕ → State
 wrote s rd value =
-    record s { registers = with_register s.registers rd value; pc = sum_32 s.pc 4; count = s.count + 1 }
+    record s { registers = with_register s.registers rd value; pc = sum s.pc 4; count = s.count + 1 }
 
 -- below the end of the address space the next address is the next word's
 next-address : (pc place next : ℕ) → place < 2 ^ 20 → next ≡ place + 1 → pc ≡ address_of place
-    → sum_32 pc 4 ≡ address_of next
+    → sum pc 4 ≡ address_of next
 next-address pc place next low is here = grind (arith, here)
 
 -- two writes, read back
@@ -65,12 +67,12 @@ put-runs code input place character out s low small first second third at =
     let h2 : s2.pc ≡ address_of (place + 2) = next-address s1.pc (place + 1) (place + 2) (omega (arith, low)) (omega arith) h1 in
     let e1 : step code input (Running s) ≡ Running s1 = step-at code input s place (Addi 17 0 (pos 2)) at.here (search (rules, ints)) first in
     let e2 : step code input (Running s1) ≡ Running s2 = step-at code input s1 (place + 1) (Addi 10 0 (pos character)) h1 (search (rules, ints)) second in
-    let e3 : step code input (Running s2) ≡ calls input s2 (register s2.registers 17) (register s2.registers 10) = step-at code input s2 (place + 2) Ecall h2 tt third in
+    let e3 : step code input (Running s2) ≡ calls input s2 (call_of (register s2.registers 17)) = step-at code input s2 (place + 2) Ecall h2 tt third in
     let r1 : register s2.registers 17 ≡ 2 = read-first s.registers 2 v at.many in
     let r2 : register s2.registers 10 ≡ v = read-last s.registers 2 v at.many in
-    let f : run code input 3 (Running s) ≡ calls input s2 2 v =
+    let f : run code input 3 (Running s) ≡ puts s2 (v % 256) =
     ap (λ m. step code input (step code input m)) e1 ∙ ap (step code input) e2 ∙ e3
-    ∙ ap (λ n. calls input s2 n (register s2.registers 10)) r1 ∙ ap (calls input s2 2) r2 in
+    ∙ ap (λ n. calls input s2 (call_of n)) r1 ∙ ap (λ a. puts s2 (a % 256)) r2 in
     let byte : v % 256 ≡ character = grind arith in
     record {
       state = wrote (record s2 { output = s2.output ++ v % 256 ∷ [] }) 10 (v % 256);
@@ -80,7 +82,7 @@ put-runs code input place character out s low small first second third at =
 
 -- an upper and a lower part make the number
 parts-make : (exit : ℤ) (n : ℕ) → exit ≡ pos n → n < 2 ^ 31
-    → sum_32 (upper_of exit * 4096) (cast_unsigned w32 (lower_of exit)) ≡ n
+    → sum (upper_of exit * 4096) (cast_unsigned w32 (lower_of exit)) ≡ n
 parts-make exit n is fits = rw is (grind (arith, ints, common_steps))
 
 upper-fits : (exit : ℤ) (n : ℕ) → exit ≡ pos n → n < 2 ^ 31 → IsInstr (Lui 10 (upper_of exit))
@@ -104,7 +106,7 @@ unfolding run wrote
 end-runs code input place exit out s n is fits low first second third fourth at =
     let u = upper_of exit * 4096 in
     let s1 = wrote s 10 u in
-    let w = sum_32 (register s1.registers 10) (cast_unsigned w32 (lower_of exit)) in
+    let w = sum (register s1.registers 10) (cast_unsigned w32 (lower_of exit)) in
     let s2 = wrote s1 10 w in
     let s3 = wrote s2 17 0 in
     let h1 : s1.pc ≡ address_of (place + 1) = next-address s.pc place (place + 1) (omega (arith, low)) refl at.here in
@@ -113,14 +115,14 @@ end-runs code input place exit out s n is fits low first second third fourth at 
     let e1 : step code input (Running s) ≡ Running s1 = step-at code input s place (Lui 10 (upper_of exit)) at.here (upper-fits exit n is fits) first in
     let e2 : step code input (Running s1) ≡ Running s2 = step-at code input s1 (place + 1) (Addi 10 10 (lower_of exit)) h1 (lower-fits exit n is fits) second in
     let e3 : step code input (Running s2) ≡ Running s3 = step-at code input s2 (place + 2) (Addi 17 0 (pos 0)) h2 (search (rules, ints)) third in
-    let e4 : step code input (Running s3) ≡ calls input s3 (register s3.registers 17) (register s3.registers 10) = step-at code input s3 (place + 3) Ecall h3 tt fourth in
+    let e4 : step code input (Running s3) ≡ calls input s3 (call_of (register s3.registers 17)) = step-at code input s3 (place + 3) Ecall h3 tt fourth in
     let r0 : register s1.registers 10 ≡ u = grind (arith, common_steps, at.many) in
     let r1 : register s3.registers 17 ≡ 0 = grind (arith, common_steps, at.many) in
     let r2 : register s3.registers 10 ≡ w = grind (arith, common_steps, at.many) in
-    let made : w ≡ n = ap (λ r. sum_32 r (cast_unsigned w32 (lower_of exit))) r0 ∙ parts-make exit n is fits in
-    let f : run code input 4 (Running s) ≡ calls input s3 0 n =
+    let made : w ≡ n = ap (λ r. sum r (cast_unsigned w32 (lower_of exit))) r0 ∙ parts-make exit n is fits in
+    let f : run code input 4 (Running s) ≡ halts s3 (Exit (cast_signed w32 n)) =
     ap (λ m. step code input (step code input (step code input m))) e1 ∙ ap (λ m. step code input (step code input m)) e2 ∙ ap (step code input) e3 ∙ e4
-    ∙ ap (λ k. calls input s3 k (register s3.registers 10)) r1 ∙ ap (calls input s3 0) (r2 ∙ made) in
+    ∙ ap (λ k. calls input s3 (call_of k)) r1 ∙ ap (λ a. halts s3 (Exit (cast_signed w32 a))) (r2 ∙ made) in
     (ap stop_of f ∙ ap (λ (v : ℤ). Some (Exit v)) (exit_value exit n is fits), ap output_of f ∙ at.said)
 
 -- a word behind a front

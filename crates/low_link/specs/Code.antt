@@ -1,11 +1,12 @@
 -- The code of a text of the form.
-use Rattle.std.specs.Prelude.{◌≡◌, ℕ, ℤ, pos, ◌+◌, ◌/◌, ◌%◌, List, [], ◌∷◌, ◌++◌}
+use Rattle.std.specs.Prelude.{◌≡◌, ℕ, ℤ, pos, ◌+◌, ◌/◌, List, [], ◌∷◌, ◌++◌}
 use Rattle.std.specs.Int.{w32, cast_unsigned}
+use Rattle.bop_bits.specs.Bits.{signed_of}
 use Rattle.rv_code.specs.declared.instr.Instr.TheVariants.{Lui, Addi, Ecall}
 use Rattle.bop_bits.specs.declared.map.TheConstants.{CODE_FROM}
 use Rattle.rv_code.specs.declared.call.TheConstants.{A0, A7}
 use Rattle.rv_code.specs.declared.program.Program.{Program}
-use Rattle.rv_code.specs.Table.{word_of, signed_12}
+use Rattle.rv_code.specs.Table.{word_of}
 use Rattle.low_link.specs.Form.{IsForm}
 
 -- a character is put: the number of the call, the character, the call
@@ -22,7 +23,7 @@ abbrev pub upper_of : ℤ → ℕ
 upper_of number = (cast_unsigned w32 number + 2048) / 4096
 
 abbrev pub lower_of : ℤ → ℤ
-lower_of number = signed_12 (cast_unsigned w32 number % 4096)
+lower_of number = signed_of 12 (cast_unsigned w32 number)
 
 -- the machine exits: the exit value, the number of the call, the call
 abbrev pub return_code : ℤ → List ℕ

@@ -1,6 +1,7 @@
 //! From a text to a checked tree and its layout.
 
 ghost use Rattle.std.specs.Prelude.{◌≡◌, ◌≤◌, IfOk, IfErr, MatchResult, length};
+ghost use Rattle.c_token.specs.declared.limits.TheConstants.{TEXT_BYTES};
 ghost use Rattle.c_tree.specs.View.{items_of};
 ghost use Rattle.low_link.specs.Front.{Spells, IsAccepted, Refuses, Fronted};
 
@@ -14,7 +15,7 @@ use std::alloc::Global;
 
 /// The tree of a text.
 fn read(alloc: Global, text: &[u8]) -> Result<Tree, Refused>
-    requires { length text.now ≤ 1048576 }
+    requires { length text.now ≤ TEXT_BYTES }
     ensures { MatchResult result (λ tree. Spells text.now (items_of tree)) (Refuses text.now) }
 {
     let tokens = tokens(alloc, text)?;
@@ -23,7 +24,7 @@ fn read(alloc: Global, text: &[u8]) -> Result<Tree, Refused>
 
 /// The tree of a text, as one that is accepted.
 fn accept(alloc: Global, text: &[u8]) -> Result<Checked, Refused>
-    requires { length text.now ≤ 1048576 }
+    requires { length text.now ≤ TEXT_BYTES }
     ensures { MatchResult result (λ checked. IsAccepted text.now (items_of checked.tree))
         (Refuses text.now) }
 {
@@ -34,7 +35,7 @@ fn accept(alloc: Global, text: &[u8]) -> Result<Checked, Refused>
 /// The checked tree of a text of at most 1,048,576 bytes, and its layout; or the first fault: of its tokens,
 /// of the grammar, of the rules of the language, of the sizes.
 pub fn front(alloc: Global, text: &[u8]) -> Result<(Checked, Layout), Refused>
-    requires { length text.now ≤ 1048576 }
+    requires { length text.now ≤ TEXT_BYTES }
     ensures { Fronted text.now result }
 {
     let checked = accept(alloc, text)?;

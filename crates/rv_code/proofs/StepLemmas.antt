@@ -1,19 +1,12 @@
 -- One step at a place of the code whose word is known.
-use Rattle.std.proofs.Common.{◌≡◌, ℕ, List, refl, ◌∙◌, ap, arith, Some}
+use Rattle.std.proofs.Common.{◌≡◌, ℕ, List, ◌∙◌, ap, arith, Some}
 use Rattle.std.specs.Prelude.{slice_get}
-use Rattle.std.proofs.lemmas.Grind.{common_steps}
-use Rattle.std.proofs.lemmas.Int.{ints}
 use Rattle.std.proofs.lemmas.Bool.Decides.{nat_tests}
 use Rattle.rv_code.specs.declared.instr.Instr.{Instr}
-use Rattle.rv_code.specs.declared.instr.Instr.TheVariants.{Lui, Addi, Ecall}
-use Rattle.rv_code.specs.Table.{IsInstr, word_of, instr_of}
+use Rattle.rv_code.specs.Table.{IsInstr, word_of}
 use Rattle.rv_code.specs.State.{State, Running}
 use Rattle.rv_code.specs.Step.{address_of, fetch, acts, executes, step}
-
-pub instr_of-word_of : (i : Instr) → IsInstr i → instr_of (word_of i) ≡ Some i
-instr_of-word_of (Lui rd upper) h = grind (arith, common_steps)
-instr_of-word_of (Addi rd rs1 imm) h = grind (arith, common_steps, ints)
-instr_of-word_of Ecall h = refl
+use Rattle.rv_code.proofs.DecodeLemmas.{instr_of-word_of}
 
 pub fetch-address_of : (code : List ℕ) (place : ℕ)
     → fetch code (address_of place) ≡ slice_get code place

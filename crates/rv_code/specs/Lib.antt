@@ -1,5 +1,10 @@
+pub mod Asked
+pub mod Decode
+pub mod Effects
+pub mod Format
 pub mod RunLaws
 pub mod SequentialRun
 pub mod State
 pub mod Step
 pub mod Table
+pub mod Word

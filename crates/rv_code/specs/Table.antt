@@ -1,64 +1,80 @@
--- The table of instructions: the fields of a word, and the word of each instruction
--- (The RISC-V Instruction Set Manual, Volume I, RV32I 2.1: chapter 2.2 has the formats, 2.3 the immediates).
-use Rattle.std.specs.Prelude.{ℕ, ◌+◌, ◌*◌, ◌/◌, ◌%◌, ◌^◌, ◌<◌, ℤ, pos, negsuc, ◌-ℤ◌, ◌≤ℤ◌, ◌==◌, ◌&&◌, nat_lt, if◌then◌else◌, Option, Some, None}
-use Rattle.std.specs.Int.{w32, cast_unsigned}
+-- The table of instructions: the format of each, with its opcode, funct3 and funct7
+-- (The RISC-V Instruction Set Manual, Volume I: RV32I 2.1, chapter 2; M 2.0, chapter 7).
+use Rattle.std.specs.Prelude.{◌≡◌, ℕ, ℤ}
+use Rattle.rv_code.specs.declared.call.TheConstants.{A7}
 use Rattle.rv_code.specs.declared.instr.Instr.{Instr}
-use Rattle.rv_code.specs.declared.instr.Instr.TheVariants.{Lui, Addi, Ecall}
+use Rattle.rv_code.specs.declared.instr.Instr.TheVariants.{Lui, Auipc, Jal, Jalr, Beq, Bne, Blt, Bge, Bltu, Bgeu, Lb, Lh, Lw, Lbu, Lhu, Sb, Sh, Sw, Addi, Slti, Sltiu, Xori, Ori, Andi, Slli, Srli, Srai, Add, Sub, Sll, Slt, Sltu, Xor, Srl, Sra, Or, And, Mul, Mulh, Mulhsu, Mulhu, Div, Divu, Rem, Remu, Fence, Ecall, Ebreak}
+use Rattle.rv_code.specs.Format.{Format, R, I, Shift, S, B, U, J, Whole, word_in, IsInRange, rs1_in, rs2_in}
 
--- 12 bits in two's complement
-abbrev pub signed_12 : ℕ → ℤ
-signed_12 bits = if nat_lt bits 2048 then pos bits else pos bits -ℤ pos 4096
+abbrev pub format_of : Instr → Format
+-- chapter 2.4, integer computation: a register and an immediate
+format_of (Addi rd rs1 imm) = I 19 0 rd rs1 imm
+format_of (Slti rd rs1 imm) = I 19 2 rd rs1 imm
+format_of (Sltiu rd rs1 imm) = I 19 3 rd rs1 imm
+format_of (Xori rd rs1 imm) = I 19 4 rd rs1 imm
+format_of (Ori rd rs1 imm) = I 19 6 rd rs1 imm
+format_of (Andi rd rs1 imm) = I 19 7 rd rs1 imm
+format_of (Slli rd rs1 amount) = Shift 19 1 0 rd rs1 amount
+format_of (Srli rd rs1 amount) = Shift 19 5 0 rd rs1 amount
+format_of (Srai rd rs1 amount) = Shift 19 5 32 rd rs1 amount
+format_of (Lui rd upper) = U 55 rd upper
+format_of (Auipc rd upper) = U 23 rd upper
+-- chapter 2.4, integer computation: two registers
+format_of (Add rd rs1 rs2) = R 51 0 0 rd rs1 rs2
+format_of (Sub rd rs1 rs2) = R 51 0 32 rd rs1 rs2
+format_of (Sll rd rs1 rs2) = R 51 1 0 rd rs1 rs2
+format_of (Slt rd rs1 rs2) = R 51 2 0 rd rs1 rs2
+format_of (Sltu rd rs1 rs2) = R 51 3 0 rd rs1 rs2
+format_of (Xor rd rs1 rs2) = R 51 4 0 rd rs1 rs2
+format_of (Srl rd rs1 rs2) = R 51 5 0 rd rs1 rs2
+format_of (Sra rd rs1 rs2) = R 51 5 32 rd rs1 rs2
+format_of (Or rd rs1 rs2) = R 51 6 0 rd rs1 rs2
+format_of (And rd rs1 rs2) = R 51 7 0 rd rs1 rs2
+-- M 2.0, chapter 7: products, quotients and remainders
+format_of (Mul rd rs1 rs2) = R 51 0 1 rd rs1 rs2
+format_of (Mulh rd rs1 rs2) = R 51 1 1 rd rs1 rs2
+format_of (Mulhsu rd rs1 rs2) = R 51 2 1 rd rs1 rs2
+format_of (Mulhu rd rs1 rs2) = R 51 3 1 rd rs1 rs2
+format_of (Div rd rs1 rs2) = R 51 4 1 rd rs1 rs2
+format_of (Divu rd rs1 rs2) = R 51 5 1 rd rs1 rs2
+format_of (Rem rd rs1 rs2) = R 51 6 1 rd rs1 rs2
+format_of (Remu rd rs1 rs2) = R 51 7 1 rd rs1 rs2
+-- chapter 2.5, control transfer
+format_of (Jal rd imm) = J 111 rd imm
+format_of (Jalr rd rs1 imm) = I 103 0 rd rs1 imm
+format_of (Beq rs1 rs2 imm) = B 99 0 rs1 rs2 imm
+format_of (Bne rs1 rs2 imm) = B 99 1 rs1 rs2 imm
+format_of (Blt rs1 rs2 imm) = B 99 4 rs1 rs2 imm
+format_of (Bge rs1 rs2 imm) = B 99 5 rs1 rs2 imm
+format_of (Bltu rs1 rs2 imm) = B 99 6 rs1 rs2 imm
+format_of (Bgeu rs1 rs2 imm) = B 99 7 rs1 rs2 imm
+-- chapter 2.6, loads and stores
+format_of (Lb rd rs1 imm) = I 3 0 rd rs1 imm
+format_of (Lh rd rs1 imm) = I 3 1 rd rs1 imm
+format_of (Lw rd rs1 imm) = I 3 2 rd rs1 imm
+format_of (Lbu rd rs1 imm) = I 3 4 rd rs1 imm
+format_of (Lhu rd rs1 imm) = I 3 5 rd rs1 imm
+format_of (Sb rs1 rs2 imm) = S 35 0 rs1 rs2 imm
+format_of (Sh rs1 rs2 imm) = S 35 1 rs1 rs2 imm
+format_of (Sw rs1 rs2 imm) = S 35 2 rs1 rs2 imm
+-- chapters 2.7 and 2.8, memory ordering and the environment
+format_of (Fence rd rs1 imm) = I 15 0 rd rs1 imm
+format_of Ecall = Whole 115
+format_of Ebreak = Whole 1048691
 
--- bits 6 to 0
-abbrev pub opcode : ℕ → ℕ
-opcode word = word % 128
-
--- bits 11 to 7
-abbrev pub rd_field : ℕ → ℕ
-rd_field word = word / 128 % 32
-
--- bits 14 to 12
-abbrev pub funct3 : ℕ → ℕ
-funct3 word = word / 4096 % 8
-
--- bits 19 to 15
-abbrev pub rs1_field : ℕ → ℕ
-rs1_field word = word / 32768 % 32
-
--- the immediate of the I format: bits 31 to 20, sign-extended
-abbrev pub imm_i : ℕ → ℤ
-imm_i word = signed_12 (word / 1048576)
-
--- the immediate of the U format: bits 31 to 12
-abbrev pub imm_u : ℕ → ℕ
-imm_u word = word / 4096
-
--- the U format
-abbrev pub u_word : ℕ → ℕ → ℕ → ℕ
-u_word code rd upper = upper * 4096 + rd * 128 + code
-
--- the I format
-abbrev pub i_word : ℕ → ℕ → ℕ → ℕ → ℤ → ℕ
-i_word code f3 rd rs1 imm =
-    cast_unsigned w32 imm % 4096 * 1048576 + rs1 * 32768 + f3 * 4096 + rd * 128 + code
-
--- the fields are in range
-abbrev pub IsInstr : Instr → Type 0
-IsInstr (Lui rd upper) = (rd < 32) × (upper < 2 ^ 20)
-IsInstr (Addi rd rs1 imm) = (rd < 32) × (rs1 < 32) × (negsuc 2047 ≤ℤ imm) × (imm ≤ℤ pos 2047)
-IsInstr Ecall = Unit {0}
-
--- the word of an instruction: LUI and ADDI of chapter 2.4, ECALL of chapter 2.8
+-- the word of an instruction
 abbrev pub word_of : Instr → ℕ
-word_of (Lui rd upper) = u_word 55 rd upper
-word_of (Addi rd rs1 imm) = i_word 19 0 rd rs1 imm
-word_of Ecall = 115
+word_of i = word_in (format_of i)
 
--- the instruction of a word, where the table has one
-abbrev pub instr_of : ℕ → Option Instr
-instr_of word =
-    if opcode word == 55 then Some (Lui (rd_field word) (imm_u word))
-    else (if (opcode word == 19) && (funct3 word == 0)
-    then Some (Addi (rd_field word) (rs1_field word) (imm_i word))
-    else (if word == 115 then Some Ecall
-    else None))
+-- its fields are in range
+abbrev pub IsInstr : Instr → Type 0
+IsInstr i = IsInRange (format_of i)
+
+-- the registers that it reads: rs1, and rs2; FENCE reads none, and a call reads its number in a7
+abbrev pub first_register : Instr → ℕ
+first_register (Fence rd rs1 imm) = 0
+first_register Ecall = A7
+first_register i = rs1_in (format_of i)
+
+abbrev pub second_register : Instr → ℕ
+second_register i = rs2_in (format_of i)

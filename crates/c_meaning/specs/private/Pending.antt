@@ -19,9 +19,10 @@ use Rattle.c_meaning.specs.declared.pending.Work.{Work}
 use Rattle.c_meaning.specs.declared.pending.Work.TheVariants as work
 use Rattle.c_semantics.specs.Run.{Run, pure, ◌>>=◌, ◌>>◌, count, now, change, given_or}
 use Rattle.c_semantics.specs.Memory.{value_at, store_at}
-use Rattle.c_semantics.specs.Names.{Definition}
-use Rattle.c_semantics.specs.Eval.{Calls, outcome, is_unsigned, binary_act, assigned, first_of}
+use Rattle.c_semantics.specs.Eval.{outcome, is_unsigned, binary_act, assigned, first_of}
 use Rattle.c_semantics.specs.Exec.{after_turn, loop, turns, with_locals}
+use Rattle.c_resolve.specs.Context.{Context}
+use Rattle.c_resolve.specs.Routines.{context_of}
 use Rattle.c_resolve.specs.Nodes.{Runs, constant, name_address, cast_value, all_values, target_run, runs}
 use Rattle.c_meaning.specs.private.Acts.{stepped_at}
 use Rattle.c_resolve.specs.Actions.{value_run, init_run, passing, first_run, test_run, step_run, action_run, body_run, else_run}
@@ -52,27 +53,27 @@ wanted want.Value r vs rest = r.value >>= with_value rest vs
 wanted want.Address r vs rest = r.address >>= with_value rest vs
 wanted want.Nothing r vs rest = r.unused >> rest Normal vs
 
-module _ (definitions : List Definition) (input : List ℕ) (calls : Calls) where
+module _ (context : Context) where
   abbrev pub loop_turns : Loop → ℕ → Run Flow
-  loop_turns l most = turns most (test_run definitions input calls (option_copied l.test))
-      (action_run definitions input calls l.body.now)
-      (step_run definitions input calls (option_copied l.step))
+  loop_turns l most = turns most (test_run context (option_copied l.test))
+      (action_run context l.body.now)
+      (step_run context (option_copied l.step))
 
   abbrev pub whole_loop : Loop → Run Flow
-  whole_loop l = loop (test_run definitions input calls (option_copied l.test))
-      (action_run definitions input calls l.body.now)
-      (step_run definitions input calls (option_copied l.step))
+  whole_loop l = loop (test_run context (option_copied l.test))
+      (action_run context l.body.now)
+      (step_run context (option_copied l.step))
 
   abbrev pub begun_loop : Beginning → Loop → Run Flow
-  begun_loop first l = first_run definitions input calls first >> whole_loop l
+  begun_loop first l = first_run context first >> whole_loop l
 
   -- a loop that has tested, with the value of the test
   abbrev pub loop_turn : Loop → ℕ → ℕ → Run Flow
   loop_turn l most x =
       if x == 0 then pure Normal else (do
         count
-        f ← action_run definitions input calls l.body.now
-        after_turn f (step_run definitions input calls (option_copied l.step) >> loop_turns l most))
+        f ← action_run context l.body.now
+        after_turn f (step_run context (option_copied l.step) >> loop_turns l most))
 
   abbrev pub loop_at : Stage → Loop → List ℕ → Rest → Run (Option ℕ)
   loop_at stage.Begins l vs rest = whole_loop l >>= λ f. rest f vs
@@ -83,55 +84,56 @@ module _ (definitions : List Definition) (input : List ℕ) (calls : Calls) wher
   abbrev pub loop_again : Stage → Loop → Run Flow
   loop_again stage.Begins l = whole_loop l
   loop_again (stage.Tests most) l =
-      step_run definitions input calls (option_copied l.step) >> loop_turns l most
+      step_run context (option_copied l.step) >> loop_turns l most
   loop_again (stage.Turns most) l =
-      step_run definitions input calls (option_copied l.step) >> loop_turns l most
+      step_run context (option_copied l.step) >> loop_turns l most
 
   abbrev pub done : Task → List ℕ → Rest → Run (Option ℕ)
-  done (task.Eval how n) vs rest = wanted how (runs definitions input calls n.now) vs rest
+  done (task.Eval how n) vs rest = wanted how (runs context n.now) vs rest
   done (task.Constant n) vs rest = constant n >>= with_value rest vs
   done task.Zero vs rest = rest Normal (0 ∷ vs)
   done (task.Name home) vs rest = name_address home >>= with_value rest vs
   done (task.Values ns) vs rest =
-      all_values (map (runs definitions input calls) ns.now)
+      all_values (map (runs context) ns.now)
       >>= λ xs. rest Normal (reverse xs ++ vs)
   done (task.Load h at) vs rest = one_operand vs (λ x. value_at h x at) rest
   done task.Count vs rest = count >> rest Normal vs
   done (task.Unary op c at) vs rest =
       one_operand vs (λ x. count >> outcome (unary_word op (is_unsigned c) x) at) rest
-  done (task.Step how c h own at) vs rest =
-      one_operand vs (λ x. count >> stepped_at how c h own at x) rest
+  done (task.Step s) vs rest =
+      one_operand vs (λ x. count >> stepped_at s.how s.operand s.of.held s.of.place s.at x) rest
   done (task.Cast h) vs rest = one_operand vs (λ x. count >> pure (cast_value h x)) rest
-  done (task.Binary op c d at) vs rest =
-      two_operands vs (λ x y. count >> binary_act op c d x y at) rest
+  done (task.Binary a) vs rest =
+      two_operands vs (λ x y. count >> binary_act a.op a.left a.right x y a.at) rest
   done (task.Logic op b) vs rest =
       one_operand vs (λ x. if decides (group op) x then pure x
-      else value_run definitions input calls b.now) rest
+      else value_run context b.now) rest
   done task.Truth vs rest = one_operand vs (λ x. count >> pure (truth (not (x == 0)))) rest
   done (task.Conditional a b) vs rest =
-      one_operand vs (λ x. if x == 0 then value_run definitions input calls b.now
-      else value_run definitions input calls a.now) rest
-  done (task.Assign how c d h own at) vs rest =
-      two_operands vs (λ x v. count >> assigned how c d h own at x v) rest
+      one_operand vs (λ x. if x == 0 then value_run context b.now
+      else value_run context a.now) rest
+  done (task.Assign a) vs rest =
+      two_operands vs (λ x v. count >> assigned a.how a.left a.right a.to.held a.to.place a.at x v)
+      rest
   done (task.Call t n) vs rest =
-      count >> (target_run definitions input calls t (reverse (take n vs))
+      count >> (target_run context t (reverse (take n vs))
       >>= λ v. rest (AtReturn v) (drop n vs))
   done task.Ignore vs rest = rest Normal (below vs)
-  done (task.Vars ps) vs rest = passing definitions input calls ps.now >> rest Normal vs
+  done (task.Vars ps) vs rest = passing context ps.now >> rest Normal vs
   done (task.Var p) vs rest =
-      init_run definitions input calls p.now.local p.now.place p.now.begun >> rest Normal vs
+      init_run context p.now.local p.now.place p.now.begun >> rest Normal vs
   done (task.Init l h at) vs rest =
       (now >>= λ store. store_at h (store.sp + l.offset) (first_of vs) at) >> rest Normal (below vs)
-  done (task.Execute a) vs rest = action_run definitions input calls a.now >>= λ f. rest f vs
-  done (task.All body) vs rest = body_run definitions input calls body.now >>= λ f. rest f vs
+  done (task.Execute a) vs rest = action_run context a.now >>= λ f. rest f vs
+  done (task.All body) vs rest = body_run context body.now >>= λ f. rest f vs
   done (task.Block ls body) vs rest =
-      with_locals ls.now (body_run definitions input calls body.now) >>= λ f. rest f vs
+      with_locals ls.now (body_run context body.now) >>= λ f. rest f vs
   done (task.For ls first l) vs rest =
       with_locals ls.now (begun_loop first.now l) >>= λ f. rest f vs
   done (task.End f) vs rest = rest f vs
   done (task.If a b) vs rest =
-      (if first_of vs == 0 then else_run (action_run definitions input calls) (option_copied b)
-      else action_run definitions input calls a.now) >>= λ f. rest f (below vs)
+      (if first_of vs == 0 then else_run (action_run context) (option_copied b)
+      else action_run context a.now) >>= λ f. rest f (below vs)
   done (task.Loop how l) vs rest = loop_at how l vs rest
   done (task.Return h) vs rest = rest (AtReturn (Some (cast_value h (first_of vs)))) (below vs)
 
@@ -145,17 +147,27 @@ abbrev pub given_by : Flow → Option ℕ
 given_by (AtReturn v) = v
 given_by _ = None
 
-module _ (definitions : List Definition) (text : List Item) (input : List ℕ) where
-  -- The work from the next piece on, with how deep calls may nest.
+-- a text and its input
+pub record Program : Type 0 where
+  pub text : List Item
+  pub input : List ℕ
+
+-- the context of what it defines, where calls may nest so deep
+abbrev pub context_at : Program → ℕ → Context
+context_at program depth =
+    context_of program.text program.input (calls_at program.text program.input depth)
+
+module _ (program : Program) where
+  -- the work from the next piece on, with how deep calls may nest.
   abbrev pub after : List Work → ℕ → Rest
   after [] depth f vs = pure (given_by f)
   after (work.Task t ∷ w) depth f vs =
-      where_normal definitions input (calls_at text input depth) t f vs (after w depth)
+      where_normal (context_at program depth) t f vs (after w depth)
   after (work.Edge (edge.Use at) ∷ w) depth f vs =
       given_or NoValue at (given_by f) >>= with_value (after w depth) vs
   after (work.Edge edge.Forget ∷ w) depth f vs = after w depth Normal vs
   after (work.Edge (edge.Turned how l) ∷ w) depth f vs =
-      after_turn f (loop_again definitions input (calls_at text input depth) how l)
+      after_turn f (loop_again (context_at program depth) how l)
       >>= λ g. after w depth g vs
   after (work.Edge (edge.Close n) ∷ w) depth f vs = do
     store ← now

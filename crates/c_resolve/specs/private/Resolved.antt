@@ -1,30 +1,50 @@
 -- What resolved names and expressions stand for.
-use Rattle.std.specs.Prelude.{◌≡◌, ℕ, List, Option}
+use Rattle.std.specs.Prelude.{option_map, ◌≡◌, ℕ, List, Option, map}
 use Rattle.c_tree.specs.declared.place.Place.{Place}
-use Rattle.c_tree.specs.Expr.{Expr}
+use Rattle.c_tree.specs.Blocks.{Blocks, look}
+use Rattle.c_scope.specs.Scoped.{blocks_of}
+use Rattle.c_resolve.specs.declared.named.Named.{Named as Coded}
+use Rattle.c_tree.specs.Expr.{Expr, Exprs}
 use Rattle.c_tree.specs.Typing.{type_at}
-use Rattle.c_types.specs.declared.seen.Seen.{Seen}
-use Rattle.c_types.specs.Seen.{seen_some}
+use Rattle.c_rules.specs.declared.seen.Seen.{Seen}
+use Rattle.c_rules.specs.Seen.{seen_some}
 use Rattle.c_semantics.specs.declared.kind.Held.{Held}
 use Rattle.c_resolve.specs.declared.names.Names.{Names as Declared}
 use Rattle.c_resolve.specs.declared.node.Node.{Node}
 use Rattle.c_semantics.specs.Run.{Run, ◌>>=◌}
 use Rattle.c_semantics.specs.Memory.{value_at}
-use Rattle.c_semantics.specs.Names.{Definition, Names, no_names, types}
-use Rattle.c_resolve.specs.Entries.{with_entries}
-use Rattle.c_semantics.specs.Eval.{Calls, eval, address, unused, place_of}
-use Rattle.c_resolve.specs.Nodes.{Runs, runs}
+use Rattle.c_semantics.specs.Names.{Definition, Names, types}
+use Rattle.c_resolve.specs.Context.{Context}
+use Rattle.c_resolve.specs.DeclaredNames.{named}
+use Rattle.c_semantics.specs.Eval.{arguments, eval, address, unused, place_of}
+use Rattle.c_resolve.specs.Nodes.{Runs, runs, all_values}
+
+-- the blocks of the names that the code has declared
+abbrev pub blocks_in : Declared → Blocks Coded
+blocks_in declared = blocks_of declared.scope
+
+-- the names of blocks
+unfoldable pub names_at : List Definition → Blocks Coded → Names
+names_at definitions blocks = λ name. option_map (named definitions) (look blocks name)
 
 -- the names that the code has declared
 abbrev pub names_in : List Definition → Declared → Names
-names_in definitions declared = with_entries definitions no_names declared.entries.items
+names_in definitions declared = names_at definitions (blocks_in declared)
+
+-- and in a context
+abbrev pub scope : Context → Declared → Names
+scope context declared = names_in context.definitions declared
+
+-- a node does this in each context
+abbrev pub NodeDoes : Node → (Context → Runs) → Type 0
+NodeDoes node does = (context : Context) → runs context node ≡ does context
 
 -- an expression's value, its address, what it does where its value isn't used, and its place
-abbrev pub runs_of : List ℕ → Calls → Names → Expr → Runs
-runs_of input calls names e = record {
-  value = eval input calls names e;
-  address = address input calls names e;
-  unused = unused input calls names e;
+abbrev pub runs_of : Context → Names → Expr → Runs
+runs_of context names e = record {
+  value = eval context.input context.calls names e;
+  address = address context.input context.calls names e;
+  unused = unused context.input context.calls names e;
   place = place_of e;
 }
 
@@ -35,8 +55,14 @@ IsTypeOf declared ty e = (definitions : List Definition)
 
 -- a node does what the expression does
 abbrev pub IsNodeOf : Declared → Node → Expr → Type 0
-IsNodeOf declared node e = (definitions : List Definition) (input : List ℕ) (calls : Calls)
-    → runs definitions input calls node ≡ runs_of input calls (names_in definitions declared) e
+IsNodeOf declared node e =
+    NodeDoes node (λ context. runs_of context (scope context declared) e)
+
+-- nodes give the values of the arguments
+abbrev pub AreArgumentsOf : Declared → List Node → Exprs → Type 0
+AreArgumentsOf declared nodes es = (context : Context)
+    → all_values (map (runs context) nodes)
+    ≡ arguments context.input context.calls (scope context declared) es
 
 -- what stands at an address that is computed first
 abbrev pub loaded : Held → Place → Run ℕ → Run ℕ

@@ -1,79 +1,65 @@
-use Rattle.std.proofs.Common.{◌≡◌, ◌≤◌, ◌++◌, refl, ◌∙◌, arith}
-use Rattle.std.proofs.lemmas.Grind.{common_steps}
+use Rattle.std.proofs.Common.{◌≡◌, ◌+◌, ◌-◌, ◌≤◌, Result, Ok, Err, refl, ◌∙◌, subst, arith}
+use Rattle.std.specs.Prelude.{OnOk, OnErr}
 use Rattle.std.proofs.lemmas.Result.{err_from_is_err_and}
-use Rattle.rv_code.specs.State.{start}
-use Rattle.rv_code.specs.SequentialRun.{seq}
-use Rattle.bop_top.proofs.Running.{none_of, count-at_start, stands-at_start, stands-quiet, stands-put, part-put, at-budget, at-stop, state-at_end, sink-at_end, part-at_end}
+use Rattle.bop_ends.specs.Ends.{HasCause}
+use Rattle.bop_top.proofs.Running.{count-at_start, stands-at_start, stands-moved, part-moved, advanced, over, state-at_end, sink-at_end}
 use Rattle.bop_top.proofs.run.run.Goals as goal
-use Rattle.bop_top.proofs.run.run.Goals.{then-loop-machine-test+else-is_none, else-loop-machine-test}
 
-pub loop-machine-init : goal.loop-machine-init
-loop-machine-init g c = record {
-  stands = stands-at_start _ _ _ _ _ c.new-piece.ensures c.start-machine.ensures;
-  room = grind (arith, common_steps, c.new-piece.ensures);
-  faults = refl;
-  count = let none = count-at_start _ _ c.start-machine.ensures in omega arith;
-}
-
-pub loop-machine-preserved : goal.loop-machine-preserved
-loop-machine-preserved g c =
-    let stands = c.loop-machine.invariant.stands in
-    let step = rw c.in_default.is at (c.step.ensures.state (start c.args.program.now).memory (stands.done ++ c.loop-machine.piece)) in
+pub loop-piece-init : goal.loop-piece-init
+loop-piece-init g c =
+    let none = count-at_start c.args.job.now.program c.args.state.now c.requires.start in
     record {
-      stands = stands-quiet _ _ _ _ _ _ _ stands (none_of _ c.if-is_none.ensures) step c.step.ensures.count;
-      room = c.loop-machine.invariant.room;
-      faults = c.loop-machine.invariant.faults;
-      count = omega (arith, c.step.ensures.count, c.loop-machine-test.true);
+      stands = stands-at_start c.args.job.now.program c.args.job.now.input c.args.state.now _ c.requires.start;
+      empty = c.new-piece.ensures;
+      owned = c.requires.owned;
+      faults = refl;
+      count = omega arith;
     }
 
-pub loop-machine-preserved-in-Continue-1 : goal.loop-machine-preserved-in-Continue-1
-loop-machine-preserved-in-Continue-1 g c =
-    let stands = c.loop-machine.invariant.stands in
-    let step = rw c.in-Some.is at (c.step.ensures.state (start c.args.program.now).memory (stands.done ++ c.loop-machine.piece)) in
+pub loop-piece-preserved : goal.loop-piece-preserved
+loop-piece-preserved g c =
+    let i = c.loop-piece.invariant in
     record {
-      stands = stands-put _ _ _ _ _ _ _ _ _ _ stands (none_of _ c.if-is_none.ensures) step c.step.ensures.count c.in_ok-put.ensures.moved;
-      room = c.in_ok-put.ensures.room;
-      faults = c.in_ok-put.ensures.cause.kept ∙ c.loop-machine.invariant.faults;
-      count = omega (arith, c.step.ensures.count, c.loop-machine-test.true);
+      stands = stands-moved _ _ c.loop-piece.state c.advance.new.state _ _ _ _ _ i.stands i.empty c.advance.ensures.least (c.advance.ensures.run i.stands.done) c.in_ok-flush-in-Full.ensures.moved;
+      empty = c.in_ok-flush-in-Full.ensures.empty;
+      owned = c.advance.ensures.kept;
+      faults = c.in_ok-flush-in-Full.ensures.cause.kept ∙ i.faults;
+      count = omega (arith, c.advance.ensures.most, i.count);
     }
 
-pub returns-in_err-put-clause-part : goal.returns-in_err-put-clause-part
-returns-in_err-put-clause-part g c =
-    let stands = c.loop-machine.invariant.stands in
-    let step = rw c.in-Some.is at (c.step.ensures.state (start c.args.program.now).memory (stands.done ++ c.loop-machine.piece)) in
-    let low : c.step.new.self.count ≤ c.args.budget = omega (arith, c.step.ensures.count, c.loop-machine-test.true) in
-    let part = part-put _ _ _ _ _ _ _ _ _ c.args.budget stands (none_of _ c.if-is_none.ensures) step c.step.ensures.count low c.in_err-put.ensures.part in
+pub returns-in_err-flush-in-Full-clause-part : goal.returns-in_err-flush-in-Full-clause-part
+returns-in_err-flush-in-Full-clause-part g c =
+    let i = c.loop-piece.invariant in
+    let low : c.advance.new.state.count ≤ c.args.job.now.budget = omega (arith, c.advance.ensures.most, i.count) in
+    let part = part-moved _ _ c.loop-piece.state c.advance.new.state _ _ _ _ _ c.args.job.now.budget i.stands i.empty c.advance.ensures.least low (c.advance.ensures.run i.stands.done) c.in_err-flush-in-Full.ensures.part in
     let p = err_from_is_err_and c.from_residual.result c.from_residual.ensures.1 in
     rw p.1 part
 
-pub returns-in_err-flush-clause-part : goal.returns-in_err-flush-clause-part
-returns-in_err-flush-clause-part g c =
-    let stands = c.loop-machine.invariant.stands in
-    let m = c.loop-machine.machine in
-    let end : seq c.args.program.now c.args.input.now c.args.budget ≡ seq c.args.program.now c.args.input.now m.count = elim c.loop-machine-test.branch [
-      | then-loop-machine-test+else-is_none w ↦ at-stop _ _ m _ c.args.budget c.loop-machine.invariant.count stands.state w.if-is_none.ensures
-      | else-loop-machine-test w ↦ at-budget _ _ m c.args.budget c.loop-machine.invariant.count w.loop-machine-test.false
-    ] in
-    let part = part-at_end _ _ m _ _ _ _ c.args.budget stands end c.in_err-flush.ensures.part in
-    let p = err_from_is_err_and c.from_residual-in_err-flush.result c.from_residual-in_err-flush.ensures.1 in
-    rw p.1 part
+on_ok : {T E P Q : Type 0} (r : Result T E) → OnOk r P → (P → Q) → OnOk r Q
+on_ok (Ok x) p f = f p
+on_ok (Err e) p f = p
 
-pub returns-clause-state : goal.returns-clause-state
-returns-clause-state g c =
-    let stands = c.loop-machine.invariant.stands in
-    let m = c.loop-machine.machine in
-    let end : seq c.args.program.now c.args.input.now c.args.budget ≡ seq c.args.program.now c.args.input.now m.count = elim c.loop-machine-test.branch [
-      | then-loop-machine-test+else-is_none w ↦ at-stop _ _ m _ c.args.budget c.loop-machine.invariant.count stands.state w.if-is_none.ensures
-      | else-loop-machine-test w ↦ at-budget _ _ m c.args.budget c.loop-machine.invariant.count w.loop-machine-test.false
-    ] in
-    state-at_end _ _ m _ _ _ c.args.budget stands end
+on_err : {T E P Q : Type 0} (r : Result T E) → OnErr r P → (P → Q) → OnErr r Q
+on_err (Ok x) p f = p
+on_err (Err e) p f = f p
 
-pub returns-clause-whole : goal.returns-clause-whole
-returns-clause-whole g c =
-    let stands = c.loop-machine.invariant.stands in
-    let m = c.loop-machine.machine in
-    let end : seq c.args.program.now c.args.input.now c.args.budget ≡ seq c.args.program.now c.args.input.now m.count = elim c.loop-machine-test.branch [
-      | then-loop-machine-test+else-is_none w ↦ at-stop _ _ m _ c.args.budget c.loop-machine.invariant.count stands.state w.if-is_none.ensures
-      | else-loop-machine-test w ↦ at-budget _ _ m c.args.budget c.loop-machine.invariant.count w.loop-machine-test.false
-    ] in
-    sink-at_end _ _ m _ _ _ _ c.args.budget stands end c.in_ok-flush.ensures.moved
+pub returns-in_default : goal.returns-in_default
+returns-in_default g c =
+    let i = c.loop-piece.invariant in
+    let program = c.args.job.now.program in
+    let input = c.args.job.now.input in
+    let s = c.loop-piece.state in
+    let t = c.advance.new.state in
+    let budget = c.args.job.now.budget in
+    let flushed = c.flush-in_default.ensures in
+    let low : t.count ≤ budget = omega (arith, c.advance.ensures.most, i.count) in
+    let all : s.count + (budget - s.count) ≡ budget = omega (arith, i.count) in
+    let ran = c.advance.ensures.run i.stands.done in
+    let here = advanced program input s t i.stands.done _ _ i.empty c.advance.ensures.least i.stands.state ran in
+    let end = over program input t _ c.advance.new.out budget (budget - s.count) s.count c.advance.result here c.advance.ensures.answer c.in_default.not-Full c.advance.ensures.took all low in
+    record {
+      state = on_ok c.flush-in_default.result flushed.moved (λ _. state-at_end program input t _ budget end here);
+      whole = on_ok c.flush-in_default.result flushed.moved (λ moved. sink-at_end program input t _ _ _ i.stands.done c.advance.new.out budget end here i.stands.sink moved);
+      part = on_err c.flush-in_default.result flushed.part (λ part. part-moved program input s t _ _ _ _ _ budget i.stands i.empty c.advance.ensures.least low ran part);
+      cause = subst (λ n. HasCause n (g.K.Sink.faults c.flush-in_default.new.sink) c.flush-in_default.result) i.faults flushed.cause;
+    }

@@ -1,15 +1,16 @@
-use Rattle.std.proofs.Common.{◌≡◌, ◌<◌, ◌≤◌, ◌-◌, length}
+use Rattle.std.proofs.Common.{◌≡◌, ◌≤◌, ◌-◌, [], true}
 use Rattle.bop_top.proofs.Running.{Stands}
 use Rattle.bop_top.proofs.run.run.Given as goal
 
-abbrev pub invariant-loop-machine : goal.invariant-loop-machine
-invariant-loop-machine g l = record {
-  stands : Stands l.program l.input l.machine (g.K.Sink.content l.initial.sink)
-      (g.K.Sink.content l.sink) l.piece;
-  room : length l.piece < 4096;
+abbrev pub invariant-loop-piece : goal.invariant-loop-piece
+invariant-loop-piece g l = record {
+  stands : Stands l.job.program l.job.input l.state (g.K.Sink.content l.initial.sink)
+      (g.K.Sink.content l.sink);
+  empty : l.piece ≡ [];
+  owned : l.state.image.owned ≡ true;
   faults : g.K.Sink.faults l.sink ≡ g.K.Sink.faults l.initial.sink;
-  count : l.machine.count ≤ l.budget;
+  count : l.state.count ≤ l.job.budget;
 }
 
-abbrev pub decreases-loop-machine : goal.decreases-loop-machine
-decreases-loop-machine g l = l.budget - l.machine.count
+abbrev pub decreases-loop-piece : goal.decreases-loop-piece
+decreases-loop-piece g l = l.job.budget - l.state.count

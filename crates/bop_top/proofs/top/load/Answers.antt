@@ -1,5 +1,6 @@
 use Rattle.std.proofs.Common.{◌<◌, length, arith}
-use Rattle.bop_top.specs.declared.top.TheConstants.{MOST_BYTES, TEXT_BYTES}
+use Rattle.bop_top.specs.declared.top.TheConstants.{MOST_BYTES}
+use Rattle.c_token.specs.declared.limits.TheConstants.{TEXT_BYTES}
 use Rattle.bop_top.proofs.Loads.{whole_file, longer_file}
 use Rattle.bop_top.proofs.top.load.Goals as goal
 

@@ -10,7 +10,7 @@ invariant-loop-v l = record {
   scope : with_declarators (map var_of (drop l.v-index l.vars)) (scope_in l.checker)
       ≡ with_declarators (map var_of l.vars) (scope_in l.initial.checker);
   least : least_of l.checker.least
-      (declarators_breaches l.global (scope_in l.checker) (map var_of (drop l.v-index l.vars)))
+      (declarators_breaches l.storage (scope_in l.checker) (map var_of (drop l.v-index l.vars)))
       ≡ least_of l.initial.checker.least
-      (declarators_breaches l.global (scope_in l.initial.checker) (map var_of l.vars));
+      (declarators_breaches l.storage (scope_in l.initial.checker) (map var_of l.vars));
 }

@@ -2,7 +2,8 @@ use Rattle.std.proofs.Common.{map}
 use Rattle.c_tree.specs.View.{param_of}
 use Rattle.c_types.specs.Env.{scope_of}
 use Rattle.c_check.specs.private.Checking.{scope_in}
-use Rattle.c_check.proofs.Scopes.{left_is, entered_long, from_entered, parametered}
+use Rattle.c_tree.proofs.BlocksLemmas.{left_is, entered_long, from_entered}
+use Rattle.c_check.proofs.Scopes.{parametered}
 use Rattle.c_check.proofs.function.check_fun_body.Goals as goal
 
 pub leave-requires : goal.leave-requires

@@ -8,7 +8,8 @@ use Rattle.c_tree.proofs.ViewLemmas.{views}
 use Rattle.c_tree.specs.View.{first_of, stmt_of, stmts_of}
 use Rattle.c_types.specs.Env.{scope_of}
 use Rattle.c_check.specs.private.Checking.{scope_in}
-use Rattle.c_check.proofs.Scopes.{left_is, entered_long, from_entered, through, behind_outer, headed}
+use Rattle.c_tree.proofs.BlocksLemmas.{left_is, entered_long, from_entered}
+use Rattle.c_check.proofs.Scopes.{through, behind_outer, headed}
 use Rattle.c_check.proofs.statement.+statement.Goals as goal
 
 pub check_inner-leave-requires : goal.check_inner-leave-requires

@@ -1,16 +1,16 @@
-use Rattle.std.proofs.Common.{◌≡◌, ℕ, List, true, map, take, drop, ◌+◌, ◌*◌, ◌&&◌}
+use Rattle.std.proofs.Common.{◌≡◌, List, true, map, take, drop, ◌+◌, ◌*◌, ◌&&◌}
 use Rattle.c_tree.specs.declared.tree.Expr.{size-Expr}
 use Rattle.c_tree.specs.Rules.{is_place}
 use Rattle.c_tree.specs.Typing.{type_at, all_taken}
 use Rattle.c_tree.specs.View.{expr_of, exprs_of}
 use Rattle.c_types.specs.Call.{parameters}
-use Rattle.c_types.specs.Seen.{seen_some, is_flat}
-use Rattle.c_types.specs.Spine.{down}
-use Rattle.c_types.specs.declared.spine.Along.TheVariants.{Operands}
-use Rattle.c_semantics.specs.Eval.{Calls}
+use Rattle.c_rules.specs.Seen.{seen_some, is_flat}
+use Rattle.c_rules.specs.Spine.{down}
+use Rattle.c_rules.specs.declared.spine.Along.TheVariants.{Operands}
 use Rattle.c_semantics.specs.Names.{Definition, types}
 use Rattle.c_resolve.specs.Nodes.{runs}
-use Rattle.c_resolve.specs.private.Resolved.{names_in, runs_of}
+use Rattle.c_resolve.specs.private.Resolved.{scope, names_in, runs_of}
+use Rattle.c_resolve.specs.Context.{Context}
 use Rattle.c_resolve.proofs.expression.+resolving.Given as goal
 
 abbrev pub invariant-resolve_arguments-loop-arg : goal.invariant-resolve_arguments-loop-arg
@@ -19,9 +19,9 @@ invariant-resolve_arguments-loop-arg l = record {
       → l.passed.typed && all_taken (types (names_in definitions l.names)) (parameters l.rest)
       (exprs_of (drop l.arg-index l.args))
       ≡ all_taken (types (names_in definitions l.names)) (parameters l.taken) (exprs_of l.args);
-  means : (definitions : List Definition) (input : List ℕ) (calls : Calls)
-      → map (runs definitions input calls) l.nodes.items
-      ≡ map (λ e. runs_of input calls (names_in definitions l.names) (expr_of e))
+  means : (context : Context)
+      → map (runs context) l.nodes.items
+      ≡ map (λ e. runs_of context (scope context l.names) (expr_of e))
       (take l.arg-index l.args);
 }
 
@@ -31,9 +31,9 @@ invariant-rise-loop-left l = record {
       → seen_some l.typed.ty ≡ type_at (types (names_in definitions l.names))
       (down Operands l.left (expr_of l.e));
   flat : is_place (down Operands l.left (expr_of l.e)) ≡ true → is_flat l.typed.ty ≡ true;
-  means : (definitions : List Definition) (input : List ℕ) (calls : Calls)
-      → runs definitions input calls l.typed.node
-      ≡ runs_of input calls (names_in definitions l.names) (down Operands l.left (expr_of l.e));
+  means : (context : Context)
+      → runs context l.typed.node
+      ≡ runs_of context (scope context l.names) (down Operands l.left (expr_of l.e));
 }
 
 abbrev pub decreases-rise-loop-left : goal.decreases-rise-loop-left

@@ -19,10 +19,10 @@ resolve_fun-requires c =
     next_is fs (length out) (definition_frame d) (planned_of c.frame-frame.result.now) c.requires.0 c.requires.1 (ap (slice_get fs) (sym number) ∙ c.frame-frame.ensures)
 
 pub returns-clause-means : goal.returns-clause-means
-returns-clause-means c = λ definitions text input calls known.
-    let run = routine_run definitions input calls in
+returns-clause-means c = λ context text known.
+    let run = routine_run context in
     let out = c.args.out.now.items in
-    let does = c.in_ok-resolve_fun.ensures.means definitions text input calls known in
+    let does = c.in_ok-resolve_fun.ensures.means context text known in
     ap (map run) c.in_ok-push.ensures.items
     ∙ (map-append run out (c.in_ok-resolve_fun.field-0 ∷ [])
     ∙ (λ i. map run out ++ (λ vs. does vs i) ∷ []))

@@ -7,10 +7,11 @@ use Rattle.c_layout.specs.Laid.{Plan}
 use Rattle.c_layout.specs.LayoutAnswers.{plan_of}
 use Rattle.c_resolve.specs.declared.routine.Routine.{Routine}
 use Rattle.c_resolve.specs.Actions.{routine_run}
-use Rattle.c_resolve.specs.Entries.{with_entries}
-use Rattle.c_semantics.specs.Names.{no_names}
-use Rattle.c_resolve.specs.Routines.{definitions_of, definition_frame, definition_run}
-use Rattle.c_resolve.proofs.Numbering.{definitions_cons, frames_are}
+use Rattle.c_resolve.specs.DeclaredNames.{numbered}
+use Rattle.c_resolve.specs.private.Resolved.{names_at}
+use Rattle.c_semantics.specs.Meaning.{main_name}
+use Rattle.c_resolve.specs.Routines.{context_of, definitions_of, definition_frame, definition_run, AreNumbersOf}
+use Rattle.c_resolve.proofs.Numbering.{definitions_cons, definition_numbered, frames_are}
 use Rattle.c_resolve.proofs.text.resolve_text.Goals as goal
 
 -- the definitions of an item and of those behind it
@@ -25,11 +26,11 @@ pub loop-item-init : goal.loop-item-init
 loop-item-init c =
     let text = items_of c.args.tree.now in
     let fs = (plan_of c.args.layout.now).frames in
-    let empty = c.new-out.ensures.items in
+    let empty = c.new-all.ensures.items in
     record {
       same = refl;
       frames = ap (λ (rs : List Routine). drop (length rs) fs) empty ∙ (ap (λ (p : Plan). p.frames) c.requires ∙ frames_are text);
-      means = λ input calls. ap (λ (rs : List Routine). map (routine_run (definitions_of text) input calls) rs ++ map (definition_run text input calls) (definitions_of text)) empty;
+      means = λ input calls. ap (λ (rs : List Routine). map (routine_run (context_of text input calls)) rs ++ map (definition_run text input calls) (definitions_of text)) empty;
     }
 
 pub push_item-requires : goal.push_item-requires
@@ -49,7 +50,7 @@ loop-item-preserved c =
     let items = c.args.tree.now.items.items in
     let i = c.loop-item.item-index in
     let item = c.item-item.result in
-    let out = c.loop-item.out.items in
+    let out = c.loop-item.all.items in
     let one = definitions_of (map item_of (item ∷ [])) in
     let later = definitions_of (map item_of (drop (i + 1) items)) in
     let here = cut c.deref-item-items.result.now items i item c.deref-item-items.ensures.value c.loop-item-test.true c.item-item.is in
@@ -61,12 +62,22 @@ loop-item-preserved c =
           ∙ (sym (drop-drop (length one) (length out) fs)
           ∙ (ap (drop (length one)) next ∙ drop_at (map definition_frame one) (map definition_frame later) (length one) (length-map one definition_frame)));
       means = λ input calls.
-          let run = routine_run (definitions_of text) input calls in
+          let run = routine_run (context_of text input calls) in
           let does = definition_run text input calls in
-          let known = ap (with_entries (definitions_of text) no_names) c.loop-item.invariant.same ∙ c.in_ok-names.ensures input in
-          let pushed = c.in_ok-push_item.ensures.means (definitions_of text) text input calls known in
+          let known = ap (names_at (definitions_of text)) c.loop-item.invariant.same ∙ c.in_ok-names.ensures input in
+          let pushed = c.in_ok-push_item.ensures.means (context_of text input calls) text known in
           ap (λ rs. rs ++ map does later) pushed
           ∙ (append_assoc (map run out) (map does one) (map does later)
           ∙ (ap (λ rs. map run out ++ rs) (sym (map-append does one later) ∙ ap (map does) (sym here))
           ∙ c.loop-item.invariant.means input calls));
     }
+
+pub returns-clause-main : goal.returns-clause-main
+returns-clause-main c =
+    let text = items_of c.args.tree.now in
+    let known = subst (λ items. AreNumbersOf c.in_ok-numbers.numbers (definitions_of (map item_of items))) c.deref.ensures.value c.in_ok-numbers.ensures in
+    ap (numbered (definitions_of text)) (c.find-main.ensures ∙ known.first main_name) ∙ definition_numbered text main_name
+
+pub text_names-requires-clause-numbers : goal.text_names-requires-clause-numbers
+text_names-requires-clause-numbers c =
+    subst (λ items. AreNumbersOf c.in_ok-numbers.numbers (definitions_of (map item_of items))) c.deref.ensures.value c.in_ok-numbers.ensures

@@ -3,7 +3,7 @@ use Rattle.std.proofs.lemmas.List.Elements.{All-pop}
 use Rattle.std.proofs.lemmas.Grind.{common_steps}
 use Rattle.c_tree.specs.declared.tree.Expr.{size-Expr}
 use Rattle.c_tree.specs.View.{expr_of}
-use Rattle.c_tree.specs.private.FirstOperand.{within}
+use Rattle.c_tree.specs.FirstOperand.{within}
 use Rattle.c_tree.proofs.FirstOperandLemmas.{seen, within-push, IsWithin}
 use Rattle.c_tree.proofs.copy.+expr.Goals as goal
 

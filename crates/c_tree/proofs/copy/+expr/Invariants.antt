@@ -1,7 +1,7 @@
 use Rattle.std.proofs.Common.{◌≡◌, ◌+◌, ◌*◌, map, take, All, vec_len}
 use Rattle.c_tree.specs.declared.tree.Expr.{size-Expr}
 use Rattle.c_tree.specs.View.{expr_of}
-use Rattle.c_tree.specs.private.FirstOperand.{within}
+use Rattle.c_tree.specs.FirstOperand.{within}
 use Rattle.c_tree.proofs.FirstOperandLemmas.{seen, IsWithin}
 use Rattle.c_tree.proofs.copy.+expr.Given as goal
 

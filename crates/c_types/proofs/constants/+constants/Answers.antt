@@ -5,9 +5,9 @@ use Rattle.c_tree.specs.Breach.{least_of}
 use Rattle.c_tree.specs.Constant.{constant_shape, value_of, constant_breaches}
 use Rattle.c_tree.specs.View.{expr_of}
 use Rattle.c_tree.specs.declared.tree.Expr.{size-Expr}
-use Rattle.c_types.proofs.Descent.{risen, at_top}
+use Rattle.c_rules.proofs.Descent.{risen, at_top}
 use Rattle.c_types.specs.Env.{scope_of}
-use Rattle.c_types.specs.declared.spine.Along.TheVariants.{Constants}
+use Rattle.c_rules.specs.declared.spine.Along.TheVariants.{Constants}
 use Rattle.c_types.proofs.constants.+constants.Goals as goal
 
 pub rise-evaluate_above-known-requires : goal.rise-evaluate_above-known-requires

@@ -5,10 +5,10 @@ use Rattle.c_tree.specs.declared.tree.Expr.{size-Expr}
 use Rattle.c_tree.specs.View.{expr_of}
 use Rattle.c_tree.specs.Breach.{least_of}
 use Rattle.c_tree.specs.Constant.{constant_shape, value_of, constant_breaches}
-use Rattle.c_types.specs.ConstantAnswers.{integer}
+use Rattle.c_rules.specs.IntegerTypes.{integer}
 use Rattle.c_types.specs.Env.{scope_of}
-use Rattle.c_types.specs.Spine.{down}
-use Rattle.c_types.specs.declared.spine.Along.TheVariants.{Constants}
+use Rattle.c_rules.specs.Spine.{down}
+use Rattle.c_rules.specs.declared.spine.Along.TheVariants.{Constants}
 use Rattle.c_types.proofs.constants.+constants.Given as goal
 
 abbrev pub invariant-rise-loop-left : goal.invariant-rise-loop-left

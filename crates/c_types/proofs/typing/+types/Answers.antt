@@ -1,6 +1,8 @@
 use Rattle.std.proofs.Common.{◌≡◌, ◌≤◌, Bool, true, Some, refl, ℕ, ◌+◌, ◌<◌, length, get_or, drop, List, ap, ◌∙◌, sym, arith}
 use Rattle.std.proofs.Math.Bool.{and_assoc}
 use Rattle.std.proofs.lemmas.Grind.{common_steps}
+use Rattle.c_tree.specs.declared.usage.Use.{Use}
+use Rattle.c_tree.specs.declared.usage.Use.TheVariants.{Value}
 use Rattle.c_tree.specs.Expr.{Expr}
 use Rattle.c_tree.specs.Expr as expr
 use Rattle.c_tree.specs.Breach.{least_of}
@@ -12,10 +14,10 @@ use Rattle.c_tree.specs.View.{expr_of, exprs_of}
 use Rattle.c_tree.specs.declared.tree.Expr.{Expr as ExprTree, size-Expr}
 use Rattle.c_tree.proofs.LeastBreach.{least-append}
 use Rattle.c_tree.proofs.TreeLists.{cut_at}
-use Rattle.c_types.proofs.Descent.{risen, at_top}
+use Rattle.c_rules.proofs.Descent.{risen, at_top}
 use Rattle.c_types.specs.Env.{scope_of}
-use Rattle.c_types.specs.Spine.{first_operand}
-use Rattle.c_types.specs.declared.spine.Along.TheVariants.{Operands}
+use Rattle.c_tree.specs.FirstOperand.{first_operand}
+use Rattle.c_rules.specs.declared.spine.Along.TheVariants.{Operands}
 use Rattle.c_types.proofs.typing.+types.Goals as goal
 
 cut : (args : List ExprTree) (i : ℕ) (item : ExprTree) → i < length args
@@ -46,8 +48,8 @@ rise-loop-left-preserved t c =
       ty = c.type_above-ty.ensures.ty ∙ ap (type_at (scope_of c.args.env.now)) c.descend-node.ensures.reaches;
       flat = λ h. c.type_above-ty.ensures.flat (ap is_place c.descend-node.ensures.reaches ∙ h);
       least = λ start h.
-          c.type_above-ty.ensures.least start (c.loop-left.invariant.least start h ∙ ap (λ x. least_of start (breaches (scope_of c.args.env.now) true x)) (sym here))
-          ∙ ap (λ x. least_of start (breaches (scope_of c.args.env.now) true x)) c.descend-node.ensures.reaches;
+          c.type_above-ty.ensures.least start (c.loop-left.invariant.least start h ∙ ap (λ x. least_of start (breaches (scope_of c.args.env.now) Value x)) (sym here))
+          ∙ ap (λ x. least_of start (breaches (scope_of c.args.env.now) Value x)) c.descend-node.ensures.reaches;
     }
 
 pub rise-returns-clause-ty : goal.rise-returns-clause-ty
@@ -63,11 +65,11 @@ rise-returns-clause-flat t c =
 pub rise-returns-clause-least : goal.rise-returns-clause-least
 rise-returns-clause-least t c =
     let top = at_top Operands c.loop-left.left (expr_of c.args.e.now) c.loop-left-test.false in
-    λ start h. c.loop-left.invariant.least start h ∙ ap (λ x. least_of start (breaches (scope_of c.args.env.now) true x)) top
+    λ start h. c.loop-left.invariant.least start h ∙ ap (λ x. least_of start (breaches (scope_of c.args.env.now) Value x)) top
 
 -- whether its value is used is nothing to an expression with a first operand
-unused : (scope : Scope) (used : Bool) (e a : Expr) → first_operand e ≡ Some a
-    → breaches scope true e ≡ breaches scope used e
+unused : (scope : Scope) (used : Use) (e a : Expr) → first_operand e ≡ Some a
+    → breaches scope Value e ≡ breaches scope used e
 unused scope used (expr.Name name at) a h = cc
 unused scope used (expr.Number t n at) a h = cc
 unused scope used (expr.Character code at) a h = cc
@@ -84,11 +86,11 @@ unused scope used (expr.Call name all at) a h = cc
 pub walk-returns-then-lowest-lt-LIMIT-clause-least : goal.walk-returns-then-lowest-lt-LIMIT-clause-least
 walk-returns-then-lowest-lt-LIMIT-clause-least t c =
     let scope = scope_of c.args.env.now in
-    c.rise.ensures.least c.args.least.now (c.type_leaf-end.ensures.least ∙ ap (λ x. least_of c.args.least.now (breaches scope true x)) c.follow-lowest.ensures.reaches)
+    c.rise.ensures.least c.args.least.now (c.type_leaf-end.ensures.least ∙ ap (λ x. least_of c.args.least.now (breaches scope Value x)) c.follow-lowest.ensures.reaches)
     ∙ ap (least_of c.args.least.now) (unused scope c.args.used (expr_of c.args.e.now) (expr_of c.in-Some._first.now) c.in-Some.ensures.value)
 
 pub walk-returns-else-lowest-lt-LIMIT-clause-least : goal.walk-returns-else-lowest-lt-LIMIT-clause-least
 walk-returns-else-lowest-lt-LIMIT-clause-least t c =
     let scope = scope_of c.args.env.now in
-    c.rise-else-lowest-lt-LIMIT.ensures.least c.args.least.now (c.walk-end.ensures.least ∙ ap (λ x. least_of c.args.least.now (breaches scope true x)) c.follow-lowest.ensures.reaches)
+    c.rise-else-lowest-lt-LIMIT.ensures.least c.args.least.now (c.walk-end.ensures.least ∙ ap (λ x. least_of c.args.least.now (breaches scope Value x)) c.follow-lowest.ensures.reaches)
     ∙ ap (least_of c.args.least.now) (unused scope c.args.used (expr_of c.args.e.now) (expr_of c.in-Some._first.now) c.in-Some.ensures.value)

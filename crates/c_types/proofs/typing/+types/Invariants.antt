@@ -1,4 +1,5 @@
 use Rattle.std.proofs.Common.{◌≡◌, ◌+◌, ◌*◌, ◌&&◌, true, drop}
+use Rattle.c_tree.specs.declared.usage.Use.TheVariants.{Value}
 use Rattle.c_tree.specs.declared.breach.Least.{Least}
 use Rattle.c_tree.specs.declared.tree.Expr.{size-Expr}
 use Rattle.c_tree.specs.View.{expr_of, exprs_of}
@@ -8,9 +9,9 @@ use Rattle.c_tree.specs.Typing.{type_at, all_taken}
 use Rattle.c_tree.specs.Breaches.{breaches, breaches_in, same_count, all_possible}
 use Rattle.c_types.specs.Env.{scope_of}
 use Rattle.c_types.specs.Call.{parameters}
-use Rattle.c_types.specs.Seen.{seen_some, is_flat}
-use Rattle.c_types.specs.Spine.{down}
-use Rattle.c_types.specs.declared.spine.Along.TheVariants.{Operands}
+use Rattle.c_rules.specs.Seen.{seen_some, is_flat}
+use Rattle.c_rules.specs.Spine.{down}
+use Rattle.c_rules.specs.declared.spine.Along.TheVariants.{Operands}
 use Rattle.c_types.proofs.typing.+types.Given as goal
 
 abbrev pub invariant-type_arguments-loop-arg : goal.invariant-type_arguments-loop-arg
@@ -32,9 +33,9 @@ invariant-rise-loop-left l = record {
   ty : seen_some l.ty ≡ type_at (scope_of l.env) (down Operands l.left (expr_of l.e));
   flat : is_place (down Operands l.left (expr_of l.e)) ≡ true → is_flat l.ty ≡ true;
   least : (start : Least) → l.initial.least
-      ≡ least_of start (breaches (scope_of l.env) true (down Operands l.count (expr_of l.e)))
+      ≡ least_of start (breaches (scope_of l.env) Value (down Operands l.count (expr_of l.e)))
       → l.least ≡ least_of start
-      (breaches (scope_of l.env) true (down Operands l.left (expr_of l.e)));
+      (breaches (scope_of l.env) Value (down Operands l.left (expr_of l.e)));
 }
 
 abbrev pub decreases-rise-loop-left : goal.decreases-rise-loop-left

@@ -2,8 +2,8 @@ use Rattle.std.proofs.Common.{◌≡◌, None, Some, cond, ap, sym, ◌∙◌, a
 use Rattle.std.proofs.lemmas.Grind.{common_steps}
 use Rattle.std.specs.Cmp.Lexicographic.{bytes_decides}
 use Rattle.std.specs.Prelude.{bytes_eq}
-use Rattle.c_types.proofs.Keys.{updates_bytes}
-use Rattle.c_resolve.specs.Entries.{indexed_at}
+use Rattle.c_scope.proofs.Keys.{updates_bytes}
+use Rattle.c_resolve.specs.DeclaredNames.{indexed_at}
 use Rattle.c_resolve.proofs.Numbering.{taken_number}
 use Rattle.c_resolve.proofs.numbers.Numbers.give.Goals as goal
 

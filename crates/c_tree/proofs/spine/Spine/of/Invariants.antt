@@ -1,7 +1,7 @@
 use Rattle.std.proofs.Common.{◌≡◌, ◌≤◌, map, All}
 use Rattle.c_tree.specs.declared.tree.Expr.{size-Expr}
 use Rattle.c_tree.specs.View.{expr_of}
-use Rattle.c_tree.specs.private.FirstOperand.{within}
+use Rattle.c_tree.specs.FirstOperand.{within}
 use Rattle.c_tree.proofs.spine.Spine.of.Given as goal
 
 abbrev pub invariant-loop-first : goal.invariant-loop-first

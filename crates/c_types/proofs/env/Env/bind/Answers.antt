@@ -1,52 +1,11 @@
-use Rattle.std.proofs.Common.{◌≡◌, [], ◌∷◌, ◌++◌, ◌+◌, length, bytes_eq, arith, sym, ap, ◌∙◌}
-use Rattle.std.proofs.lemmas.Grind.{common_steps}
-use Rattle.c_tree.specs.Scope.{Frame}
-use Rattle.c_types.specs.Block.{known, frame_of, frames_of}
-use Rattle.c_types.specs.private.Index.{number_if, declaring}
-use Rattle.c_types.proofs.Declaring.{declared_again, declared_newly, taken_back}
-use Rattle.c_types.proofs.ScopeFrames.{had}
+use Rattle.std.proofs.Common.{ap, ◌∙◌}
+use Rattle.c_tree.specs.Blocks.{mapped}
+use Rattle.c_tree.proofs.BlocksLemmas.{mapped_declared}
+use Rattle.c_scope.specs.Scoped.{blocks_of}
+use Rattle.c_types.specs.Env.{known}
 use Rattle.c_types.proofs.env.Env.bind.Goals as goal
 
-pub invariant_of-self-then-is_some : goal.invariant_of-self-then-is_some
-invariant_of-self-then-is_some c =
-    let old = c.args.self.now in
-    let inserted = c.in_ok-insert.ensures in
-    let here = had c.in_ok-insert.field-0 (frame_of old.inner c.args.name.now) _ inserted.before c.if-is_some.ensures in
-    record {
-      indexed = λ other.
-          old.indexed other
-          ∙ declared_again (frames_of old.outer.items) (frame_of old.inner) (frame_of c.insert.new.self) c.args.name.now (known c.args.entry) inserted.bound here other;
-    }
-
-pub invariant_of-self-in-Ok : goal.invariant_of-self-in-Ok
-invariant_of-self-in-Ok c =
-    let old = c.args.self.now in
-    let inserted = c.in_ok-insert.ensures in
-    let absent = had c.in_ok-insert.field-0 (frame_of old.inner c.args.name.now) _ inserted.before c.if-is_some.ensures in
-    let number : c.len.result ≡ 0 + length (frames_of old.outer.items) = grind (arith, common_steps) in
-    record {
-      indexed = λ other.
-          c.in-Ok.ensures.pushed other
-          ∙ (ap (λ ns. ns ++ number_if (bytes_eq c.args.name.now other) c.len.result) (old.indexed other)
-          ∙ (ap (λ n. declaring 0 (frames_of old.outer.items ++ frame_of old.inner ∷ []) other ++ number_if (bytes_eq c.args.name.now other) n) number
-          ∙ declared_newly (frames_of old.outer.items) (frame_of old.inner) (frame_of c.insert.new.self) c.args.name.now (known c.args.entry) inserted.bound absent other));
-    }
-
-pub invariant_of-self-in-Err : goal.invariant_of-self-in-Err
-invariant_of-self-in-Err c =
-    let old = c.args.self.now in
-    let inserted = c.in_ok-insert.ensures in
-    let absent = had c.in_ok-insert.field-0 (frame_of old.inner c.args.name.now) _ inserted.before c.if-is_some.ensures in
-    let back = taken_back c.args.name.now (known c.args.entry) (frame_of old.inner) (frame_of c.insert.new.self) (frame_of c.remove.new.self) inserted.bound c.remove.ensures absent in
-    record {
-      indexed = λ other.
-          c.in-Err.ensures.refused other ∙ (old.indexed other ∙ ap (λ (f : Frame). declaring 0 (frames_of old.outer.items ++ f ∷ []) other) (sym back));
-    }
-
-pub returns-in-Err-clause-refused : goal.returns-in-Err-clause-refused
-returns-in-Err-clause-refused c =
-    let old = c.args.self.now in
-    let inserted = c.in_ok-insert.ensures in
-    let absent = had c.in_ok-insert.field-0 (frame_of old.inner c.args.name.now) _ inserted.before c.if-is_some.ensures in
-    let back = taken_back c.args.name.now (known c.args.entry) (frame_of old.inner) (frame_of c.insert.new.self) (frame_of c.remove.new.self) inserted.bound c.remove.ensures absent in
-    ap (λ (f : Frame). record { outer = frames_of old.outer.items; inner = f }) back
+pub returns-clause-declared : goal.returns-clause-declared
+returns-clause-declared c =
+    ap (mapped known) c.in_ok-declare.ensures.declared
+    ∙ mapped_declared known c.args.name.now c.args.entry (blocks_of c.args.self.now.names)

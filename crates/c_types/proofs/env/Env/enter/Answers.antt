@@ -1,19 +1,10 @@
-use Rattle.std.proofs.Common.{◌≡◌, [], ◌∷◌, ◌++◌, sym, ap, ◌∙◌}
-use Rattle.std.proofs.lemmas.List.{map-append}
-use Rattle.c_types.specs.Block.{frame_of, frames_of}
-use Rattle.c_types.specs.private.Index.{declaring}
-use Rattle.c_types.proofs.Declaring.{opened}
+use Rattle.std.proofs.Common.{ap, ◌∙◌}
+use Rattle.c_tree.specs.Blocks.{mapped}
+use Rattle.c_tree.proofs.BlocksLemmas.{mapped_entered}
+use Rattle.c_scope.specs.Scoped.{blocks_of}
+use Rattle.c_types.specs.Env.{known}
 use Rattle.c_types.proofs.env.Env.enter.Goals as goal
 
-pub invariant_of-self : goal.invariant_of-self
-invariant_of-self c =
-    let old = c.args.self.now in
-    let fresh = c.replace-outside.new.dest in
-    let all : frames_of c.push.new.self.items ≡ frames_of old.outer.items ++ frame_of old.inner ∷ [] =
-    ap frames_of c.in-Ok.ensures.items ∙ (map-append frame_of old.outer.items _ ∙ ap (λ b. frames_of old.outer.items ++ frame_of b ∷ []) c.replace-outside.ensures.value) in
-    record {
-      indexed = λ name.
-          old.indexed name
-          ∙ (sym (opened (frames_of old.outer.items) (frame_of old.inner) (frame_of fresh) name (ap frame_of c.replace-outside.ensures.after ∙ c.new.ensures))
-          ∙ ap (λ fs. declaring 0 (fs ++ frame_of fresh ∷ []) name) (sym all));
-    }
+pub returns-clause-entered : goal.returns-clause-entered
+returns-clause-entered c =
+    ap (mapped known) c.in_ok-enter.ensures.entered ∙ mapped_entered known (blocks_of c.args.self.now.names)

@@ -1,12 +1,7 @@
-use Rattle.std.proofs.Common.{◌∷◌, ◌++◌, [], sym, ap, ◌∙◌}
-use Rattle.c_tree.specs.Scope.{Frame}
-use Rattle.c_types.specs.Block.{frame_of, frames_of}
-use Rattle.c_types.specs.private.Index.{declaring}
+use Rattle.std.proofs.Common.{ap}
+use Rattle.c_tree.specs.Blocks.{mapped}
+use Rattle.c_types.specs.Env.{known}
 use Rattle.c_types.proofs.env.Env.new.Goals as goal
 
-pub invariant_of-result : goal.invariant_of-result
-invariant_of-result c = record {
-  indexed = λ name.
-      c.new-3.ensures name
-      ∙ sym (ap (λ bs. declaring 0 (frames_of bs ++ frame_of c.new-2.result ∷ []) name) c.new.ensures.items ∙ ap (λ (f : Frame). declaring 0 (f ∷ []) name) c.new-2.ensures);
-}
+pub returns : goal.returns
+returns c = ap (mapped known) c.new.ensures

@@ -1,0 +1,7 @@
+//! One module a subject.
+
+mod accepted;
+mod code;
+mod meanings;
+mod memory;
+mod resolved;

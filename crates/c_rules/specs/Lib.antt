@@ -1,0 +1,3 @@
+pub mod IntegerTypes
+pub mod Seen
+pub mod Spine

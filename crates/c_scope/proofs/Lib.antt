@@ -1,0 +1,5 @@
+mod Closing
+mod Declaring
+mod IndexNumbers
+pub mod Keys
+mod ScopeFrames

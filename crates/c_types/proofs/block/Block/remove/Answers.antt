@@ -1,5 +1,0 @@
-use Rattle.c_types.proofs.ScopeFrames.{frame_unbound}
-use Rattle.c_types.proofs.block.Block.remove.Goals as goal
-
-pub returns : goal.returns
-returns c = frame_unbound c.args.name.now c.get.result.now c.get.ensures c.args.self.now.names c.remove.new.self c.remove.ensures.updates

@@ -1,0 +1,6 @@
+//! Data and stack.
+#![tactic(auto)]
+
+mod image;
+
+pub use image::Image;

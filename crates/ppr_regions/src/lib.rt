@@ -1,0 +1,6 @@
+//! What a program says of its regions and hints.
+#![tactic(auto)]
+
+mod event;
+
+pub use event::Event;
