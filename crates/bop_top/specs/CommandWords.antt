@@ -1,7 +1,10 @@
 -- The words of the command line.
+use Rattle.rv_step.specs.declared.limits.TheConstants.{BUDGET_LIMIT}
 use Rattle.bop_top.specs.declared.words.Command.{Command}
+use Rattle.rv_step.specs.declared.limits.TheConstants.{BUDGET_LIMIT}
 use Rattle.bop_top.specs.declared.words.Command.TheVariants as command
-use Rattle.bop_top.specs.declared.words.TheConstants.{BUDGET_DIGITS, MOST_BUDGET}
+use Rattle.rv_step.specs.declared.limits.TheConstants.{BUDGET_LIMIT}
+use Rattle.bop_top.specs.declared.words.TheConstants.{BUDGET_DIGITS}
 use Rattle.bop_top.specs.declared.top.TheConstants.{BUDGET}
 use Rattle.std.specs.Prelude.{◌≡◌, ◌≢◌, ◌≤◌, ℕ, List, [], ◌∷◌, length, codes, slice_index}
 use Rattle.std.specs.Char.{IsAsciiDigit}
@@ -37,7 +40,7 @@ pub record IsBudget (digits : List ℕ) (budget : ℕ) : Type 0 where
   pub few : length digits ≤ BUDGET_DIGITS
   pub value : budget ≡ digits_value 10 digits
   pub least : 1 ≤ budget
-  pub most : budget ≤ MOST_BUDGET
+  pub most : budget ≤ BUDGET_LIMIT
 
 -- the budget that these options give: the usual one where there are none
 abbrev pub HasBudget : List (List ℕ) → ℕ → Type 0

@@ -18,13 +18,13 @@ use Rattle.low_link.specs.Refused.{IsRejection}
 use Rattle.low_link.specs.Code.{IsProgramOf}
 use Rattle.low_link.specs.declared.refused.Refused.{Refused}
 use Rattle.low_link.specs.declared.refused.Refused.TheVariants as refused
+use Rattle.rv_step.specs.declared.limits.TheConstants.{INPUT_BYTES}
 use Rattle.bop_top.specs.declared.outcome.Outcome.{Outcome}
 use Rattle.bop_top.specs.declared.outcome.Outcome.TheVariants.{Done, Fine, LoadFault, ProgramTooLong, Rejected, ReadFault, InputTooLong, StackFull, Undefined, MoreSteps, WriteFault, OutOfMemory, NotYetBuilt}
 use Rattle.bop_top.specs.declared.status.End.{End}
 use Rattle.bop_top.specs.declared.status.End.TheVariants as end
 use Rattle.bop_top.specs.declared.status.Status.{Status}
 use Rattle.bop_top.specs.declared.status.Status.TheVariants.{BadWords}
-use Rattle.bop_top.specs.declared.input.TheConstants.{INPUT_BYTES}
 use Rattle.bop_top.specs.declared.top.TheConstants.{BUDGET}
 use Rattle.c_token.specs.declared.limits.TheConstants.{TEXT_BYTES}
 use Rattle.bop_top.specs.Report.{Reported}

@@ -6,10 +6,8 @@ ghost use Rattle.bop_top.specs.Headline.{Counts, IsInput, IsUnread};
 
 use crate::outcome::Outcome;
 use bop_ends::Source;
+use rv_step::INPUT_BYTES;
 use std::alloc::Global;
-
-/// How many bytes an input has at most.
-pub const INPUT_BYTES: usize = 16_777_216;
 
 /// Reads the input to its end. A longer one is read until that is known.
 pub fn read_input<S: Source>(alloc: Global, input: &mut S) -> Result<Vec<u8>, Outcome>

@@ -12,7 +12,7 @@ mod status;
 mod top;
 mod words;
 
-pub use laws::one_request_of_words;
+pub use laws::{budgets_in_numbers, one_request_of_words};
 pub use status::Status;
 pub use top::bop_main;
 

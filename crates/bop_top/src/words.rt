@@ -6,12 +6,10 @@ ghost use Rattle.std.specs.List.{All};
 ghost use Rattle.bop_top.specs.CommandWords.{Request, IsRequest, IsName, IsBudget, request_of};
 
 use crate::top::BUDGET;
+use rv_step::BUDGET_LIMIT;
 
 /// How many digits a budget has at most.
 pub const BUDGET_DIGITS: usize = 13;
-
-/// How many steps a budget has at most.
-pub const MOST_BUDGET: u64 = 1_000_000_000_000;
 
 /// What the words ask for.
 #[derive(Clone, Copy, Debug)]
@@ -95,7 +93,7 @@ fn budget_of(digits: &str) -> Option<u64>
     let Ok(budget) = digits.parse::<u64>() else {
         return None;
     };
-    if !(1..=MOST_BUDGET).contains(&budget) {
+    if !(1..=BUDGET_LIMIT).contains(&budget) {
         return None;
     }
     Some(budget)

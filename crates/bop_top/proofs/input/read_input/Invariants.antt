@@ -1,6 +1,6 @@
 use Rattle.std.proofs.Common.{◌≡◌, ◌+◌, ◌-◌, length}
 use Rattle.std.specs.Io.KnownBytes.{Consumes}
-use Rattle.bop_top.specs.declared.input.TheConstants.{INPUT_BYTES}
+use Rattle.rv_step.specs.declared.limits.TheConstants.{INPUT_BYTES}
 use Rattle.bop_top.proofs.input.read_input.Given as goal
 
 abbrev pub invariant-loop-piece : goal.invariant-loop-piece

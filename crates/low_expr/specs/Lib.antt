@@ -1,0 +1,10 @@
+pub mod Registers
+pub mod CodePieces
+pub mod Operators
+pub mod ExprCode
+pub mod Agreement
+pub mod Following
+pub mod Readiness
+pub mod Bound
+pub mod ExprSimulation
+pub mod FittingNames

@@ -1,0 +1,4 @@
+pub mod Operation
+pub mod Placed
+pub mod Emission
+pub mod Closed

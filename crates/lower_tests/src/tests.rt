@@ -1,0 +1,3 @@
+//! One module a subject.
+
+mod labels;
