@@ -87,13 +87,12 @@ pub fn asks(instr: &Instr, x: &[u32; 32], pc: u32) -> Effect
     table!(asked(instr, x, pc))
 }
 
-/// What a register reads as. It is loaded first, so that no jump hangs on its number.
+/// What a register reads as.
 pub fn register(x: &[u32; 32], r: u8) -> u32
     requires { r < 32 }
     ensures { result ≡ register_of x.now r }
 {
-    let value = x[r as usize];
-    if r == 0 { 0 } else { value }
+    if r == 0 { 0 } else { x[r as usize] }
 }
 
 fn branches(taken: bool, to: u32) -> Effect

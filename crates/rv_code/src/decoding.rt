@@ -2,8 +2,9 @@
 
 ghost use Rattle.std.specs.Prelude.{◌≡◌, ◌==◌, ◌||◌, if◌then◌else◌, Some, IfSome};
 ghost use Rattle.rv_code.specs.declared.instr.Instr.{Instr};
+ghost use Rattle.rv_code.specs.declared.instr.Instr.TheVariants.{Jalr, Fence};
 ghost use Rattle.rv_code.specs.Decode.{instr_of, instr_at, only_of, register_of, immediate_of, shift_of, load_of, store_of, branch_of};
-ghost use Rattle.rv_code.specs.Format.{imm_i as imm_i_of, imm_s as imm_s_of, imm_b as imm_b_of, imm_j as imm_j_of};
+ghost use Rattle.rv_code.specs.Format.{rd_field, rs1_field, rs2_field, funct3 as funct3_of, funct7 as funct7_of, imm_i as imm_i_of, imm_s as imm_s_of, imm_b as imm_b_of, imm_j as imm_j_of};
 ghost use Rattle.rv_code.specs.Table.{IsInstr, word_of};
 
 use crate::instr::Instr;
@@ -25,9 +26,9 @@ macro_rules! register_decoded {
     }};
 }
 
-macro_rules! immediate_decoded {
+macro_rules! integer_decoded {
     (
-        ($f3:expr, $at_rd:expr, $at_rs1:expr, $at_imm:expr)
+        ($f3:expr, $at_rd:expr, $at_rs1:expr, $at_imm:expr, $shift:expr)
         ($rd:ident, $rs1:ident, $rs2:ident, $imm:ident, $($names:ident),*)
         registers $registers:tt
         immediates { $($name:ident, $funct3:literal, $value:expr;)* }
@@ -36,7 +37,7 @@ macro_rules! immediate_decoded {
         let ($rd, $rs1, $imm) = ($at_rd, $at_rs1, $at_imm);
         match $f3 {
             $($funct3 => Some(Instr::$name { $rd, $rs1, $imm }),)*
-            _ => None,
+            _ => $shift,
         }
     }};
 }
@@ -126,20 +127,19 @@ macro_rules! decoded {
         stores $stores:tt
         branches $branches:tt
         uppers { $($u:ident, $u_op:literal, $u_value:expr;)* }
-        jumps { $jal:ident, $jal_to:expr; $jalr:ident, $jalr_to:expr; }
-        others { $fence:ident, $fence_asks:expr; $ecall:ident, $ecall_asks:expr; $ebreak:ident, $ebreak_asks:expr; }
+        jumps { $jal:ident, $jal_to:expr; Jalr, $jalr_to:expr; }
+        others { Fence, $fence_asks:expr; $ecall:ident, $ecall_asks:expr; $ebreak:ident, $ebreak_asks:expr; }
     ) => {{
-        let ($rd, $rs1, $rs2) = ($at_rd, $at_rs1, $at_rs2);
         match $op {
-            $($u_op => Some(Instr::$u { $rd, $upper: field::<12, 20>($word) }),)*
-            0x6f => Some(Instr::$jal { $rd, $imm: imm_j($word) }),
-            0x67 => only($f3, Instr::$jalr { $rd, $rs1, $imm: imm_i($word) }),
-            0x63 => decode_branch($f3, $rs1, $rs2, imm_b($word)),
-            0x03 => decode_load($f3, $rd, $rs1, imm_i($word)),
-            0x23 => decode_store($f3, $rs1, $rs2, imm_s($word)),
-            0x13 => decode_integer($f3, $f7, $rd, $rs1, $rs2, imm_i($word)),
-            0x33 => decode_register($f3, $f7, $rd, $rs1, $rs2),
-            0x0f => only($f3, Instr::$fence { $rd, $rs1, $imm: imm_i($word) }),
+            $($u_op => Some(Instr::$u { $rd: $at_rd, $upper: field::<12, 20>($word) }),)*
+            0x6f => Some(Instr::$jal { $rd: $at_rd, $imm: imm_j($word) }),
+            0x67 => decode_jalr($word, $f3, $at_rd, $at_rs1),
+            0x63 => decode_branch($word, $f3, $at_rs1, $at_rs2),
+            0x03 => decode_load($word, $f3, $at_rd, $at_rs1),
+            0x23 => decode_store($word, $f3, $at_rs1, $at_rs2),
+            0x13 => decode_integer($word, $f3, $at_rd, $at_rs1),
+            0x33 => decode_register($f3, $f7, $at_rd, $at_rs1, $at_rs2),
+            0x0f => decode_fence($word, $f3, $at_rd, $at_rs1),
             _ if $word == 0x0000_0073 => Some(Instr::$ecall),
             _ if $word == 0x0010_0073 => Some(Instr::$ebreak),
             _ => None,
@@ -163,22 +163,54 @@ pub fn decode(word: u32) -> Option<Instr>
 fn read_word(word: u32) -> Option<Instr>
     ensures { result ≡ instr_of word }
 {
-    let rd = field::<7, 5>(word) as u8;
-    let rs1 = field::<15, 5>(word) as u8;
-    let rs2 = field::<20, 5>(word) as u8;
-    let (op, f3, f7) = (
-        field::<0, 7>(word),
-        field::<12, 3>(word),
-        field::<25, 7>(word),
-    );
-    read_fields(word, op, f3, f7, rd, rs1, rs2)
+    read_fields(word, field::<0, 7>(word))
 }
 
-/// The instruction of a word with these fields.
-fn read_fields(word: u32, op: u32, f3: u32, f7: u32, rd: u8, rs1: u8, rs2: u8) -> Option<Instr>
-    ensures { result ≡ instr_at word op rd f3 rs1 rs2 f7 }
+/// The instruction of a word with this opcode. The macro puts what takes a field into the arms of
+/// the opcodes that have it, so that no field is taken before the branch by opcode.
+fn read_fields(word: u32, op: u32) -> Option<Instr>
+    ensures { result ≡ instr_at word op (rd_field word) (funct3_of word) (rs1_field word)
+        (rs2_field word) (funct7_of word) }
 {
-    table!(decoded(word, op, f3, f7, rd, rs1, rs2))
+    table!(decoded(
+        word,
+        op,
+        funct3(word),
+        funct7(word),
+        rd(word),
+        rs1(word),
+        rs2(word)
+    ))
+}
+
+fn funct3(word: u32) -> u32
+    ensures { result ≡ funct3_of word }
+{
+    field::<12, 3>(word)
+}
+
+fn funct7(word: u32) -> u32
+    ensures { result ≡ funct7_of word }
+{
+    field::<25, 7>(word)
+}
+
+fn rd(word: u32) -> u8
+    ensures { result ≡ rd_field word }
+{
+    field::<7, 5>(word) as u8
+}
+
+fn rs1(word: u32) -> u8
+    ensures { result ≡ rs1_field word }
+{
+    field::<15, 5>(word) as u8
+}
+
+fn rs2(word: u32) -> u8
+    ensures { result ≡ rs2_field word }
+{
+    field::<20, 5>(word) as u8
 }
 
 fn decode_register(f3: u32, f7: u32, rd: u8, rs1: u8, rs2: u8) -> Option<Instr>
@@ -194,22 +226,45 @@ fn only(f3: u32, instr: Instr) -> Option<Instr>
     if f3 == 0 { Some(instr) } else { None }
 }
 
-/// Opcode 0x13: an immediate, or an amount of a shift, which stands where rs2 does.
-fn decode_integer(f3: u32, f7: u32, rd: u8, rs1: u8, amount: u8, imm: i32) -> Option<Instr>
-    ensures { result ≡ (if (f3 == 1) || (f3 == 5) then shift_of f3 f7 rd rs1 amount
-        else immediate_of f3 rd rs1 imm) }
+fn decode_jalr(word: u32, f3: u32, rd: u8, rs1: u8) -> Option<Instr>
+    ensures { result ≡ only_of f3 (Jalr rd rs1 (imm_i_of word)) }
 {
-    if f3 == 1 || f3 == 5 {
-        decode_shift(f3, f7, rd, rs1, amount)
-    } else {
-        decode_immediate(f3, rd, rs1, imm)
-    }
+    only(
+        f3,
+        Instr::Jalr {
+            rd,
+            rs1,
+            imm: imm_i(word),
+        },
+    )
 }
 
-fn decode_immediate(f3: u32, rd: u8, rs1: u8, imm: i32) -> Option<Instr>
-    ensures { result ≡ immediate_of f3 rd rs1 imm }
+fn decode_fence(word: u32, f3: u32, rd: u8, rs1: u8) -> Option<Instr>
+    ensures { result ≡ only_of f3 (Fence rd rs1 (imm_i_of word)) }
 {
-    table!(immediate_decoded(f3, rd, rs1, imm))
+    only(
+        f3,
+        Instr::Fence {
+            rd,
+            rs1,
+            imm: imm_i(word),
+        },
+    )
+}
+
+/// Opcode 0x13: an immediate, or an amount of a shift, which stands where rs2 does.
+fn decode_integer(word: u32, f3: u32, rd: u8, rs1: u8) -> Option<Instr>
+    ensures { result ≡ (if (f3 == 1) || (f3 == 5)
+        then shift_of f3 (funct7_of word) rd rs1 (rs2_field word)
+        else immediate_of f3 rd rs1 (imm_i_of word)) }
+{
+    table!(integer_decoded(
+        f3,
+        rd,
+        rs1,
+        imm_i(word),
+        decode_shift(f3, funct7(word), rd, rs1, rs2(word))
+    ))
 }
 
 fn decode_shift(f3: u32, f7: u32, rd: u8, rs1: u8, amount: u8) -> Option<Instr>
@@ -218,22 +273,22 @@ fn decode_shift(f3: u32, f7: u32, rd: u8, rs1: u8, amount: u8) -> Option<Instr>
     table!(shift_decoded(f3, f7, rd, rs1, amount))
 }
 
-fn decode_load(f3: u32, rd: u8, rs1: u8, imm: i32) -> Option<Instr>
-    ensures { result ≡ load_of f3 rd rs1 imm }
+fn decode_load(word: u32, f3: u32, rd: u8, rs1: u8) -> Option<Instr>
+    ensures { result ≡ load_of f3 rd rs1 (imm_i_of word) }
 {
-    table!(load_decoded(f3, rd, rs1, imm))
+    table!(load_decoded(f3, rd, rs1, imm_i(word)))
 }
 
-fn decode_store(f3: u32, rs1: u8, rs2: u8, imm: i32) -> Option<Instr>
-    ensures { result ≡ store_of f3 rs1 rs2 imm }
+fn decode_store(word: u32, f3: u32, rs1: u8, rs2: u8) -> Option<Instr>
+    ensures { result ≡ store_of f3 rs1 rs2 (imm_s_of word) }
 {
-    table!(store_decoded(f3, rs1, rs2, imm))
+    table!(store_decoded(f3, rs1, rs2, imm_s(word)))
 }
 
-fn decode_branch(f3: u32, rs1: u8, rs2: u8, imm: i32) -> Option<Instr>
-    ensures { result ≡ branch_of f3 rs1 rs2 imm }
+fn decode_branch(word: u32, f3: u32, rs1: u8, rs2: u8) -> Option<Instr>
+    ensures { result ≡ branch_of f3 rs1 rs2 (imm_b_of word) }
 {
-    table!(branch_decoded(f3, rs1, rs2, imm))
+    table!(branch_decoded(f3, rs1, rs2, imm_b(word)))
 }
 
 /// The immediate of the I format. A shift to the right fills with the sign.
