@@ -1,0 +1,12 @@
+pub mod MarkerCode
+pub mod StmtCode
+pub mod FunCode
+pub mod TextCode
+pub mod StmtReadiness
+pub mod StmtSimulation
+pub mod FunReadiness
+pub mod FunSimulation
+pub mod TextReadiness
+pub mod TextSimulation
+pub mod CodeBound
+pub mod FittingTexts
