@@ -25,36 +25,8 @@ use Rattle.low_expr.proofs.KeptValues.{all_width, width-append, first_place, rea
 use Rattle.low_expr.proofs.CodeLengths.{arguments_length}
 use Rattle.low_expr.proofs.ValueNodes.{slot_fits}
 use Rattle.low_expr.proofs.BranchLemmas.{aligned_place}
+use Rattle.low_expr.proofs.LinkingJumps.{linked, link_agrees, link_fields, link_comes}
 use Rattle.low_expr.proofs.ArgumentNodes.{with_all, with_all_other, PassedIn, all_passed, arguments_take, KeptIn, CallAct}
-
--- a jump that keeps the next address in register 1
-unfoldable linked : State → (pc : ℕ) → State
-linked s pc = record s {
-  registers = with_register s.registers 1 (sum s.pc 4);
-  pc = pc;
-  count = s.count + 1;
-}
-
-link_agrees : (store : Store) (s : State) (pc : ℕ) → Agrees store s → Agrees store (linked s pc)
-unfolding linked
-link_agrees store s pc a =
-    let w = with_is s.registers 1 (sum s.pc 4) (omega arith) (omega (arith, a.registers)) in
-    record {
-      bytes = a.bytes;
-      small = a.small;
-      stack = ap (λ e. e 2) w ∙ a.stack;
-      cursor = a.cursor;
-      output = a.output;
-      memory = a.memory;
-      registers = length-with_register s.registers 1 (sum s.pc 4) (omega arith) ∙ a.registers;
-      cells = a.cells;
-    }
-
-link_fields : (s : State) (pc : ℕ) → length s.registers ≡ 32
-    → ((linked s pc).memory ≡ s.memory) × ((linked s pc).pc ≡ pc)
-    × (register (linked s pc).registers ≡ with_env 1 (sum s.pc 4) (register s.registers))
-unfolding linked
-link_fields s pc len = (refl, refl, with_is s.registers 1 (sum s.pc 4) (omega arith) (omega arith))
 
 passed_of : (r : ℕ) (vs : List ℕ) (env : Env) (s : State)
     → ((q : ℕ) → r ≤ q → register s.registers q ≡ env q) → PassedIn r vs env
@@ -73,18 +45,6 @@ before_keeping = record { slack = 36; over = 0; credit = 0 }
 
 module _ (code input : List ℕ) (short : length code ≤ CODE_WORDS) (labels : ℕ → ℕ)
     (frame slots : ℕ) where
-  link_comes : (i label : ℕ) (s : State) → s.pc ≡ address_of i → HasJump code labels i 1 label
-      → Comes code input 1 s (linked s (address_of (labels label)))
-  unfolding linked
-  link_comes i label s pc h =
-      let to : sum s.pc (word h.0) ≡ address_of (labels label) = ap (λ p. sum p (word h.0)) pc ∙ h.2 in
-      record {
-        is = one code input labels s i (Jal 1 h.0) pc h.1
-            ∙ ap (λ z. performs input s (Links 1 z)) to
-            ∙ ap (links s 1 (address_of (labels label)))
-            (eq_true (address_of (labels label) % 4) 0 (aligned_place (labels label)));
-      }
-
   -- the value that a call has left goes into a slot
   returned_kept : (slot i : ℕ) (v : Option ℕ) (store : Store) (s : State) → slot < slots
       → HasAt code labels i (keep [] 10 slot) → s.pc ≡ address_of i → Agrees store s
@@ -142,7 +102,7 @@ module _ (code input : List ℕ) (short : length code ≤ CODE_WORDS) (labels : 
       let target = address_of (labels (functions name)) in
       let s2 = linked s1 target in
       let fields = link_fields s1 target w1.registers in
-      let c = then_comes code input (length xs) 1 s s1 s2 w1.comes (link_comes k1 (functions name) s1 w1.pc back.0) in
+      let c = then_comes code input (length xs) 1 s s1 s2 w1.comes (link_comes code input labels k1 (functions name) s1 w1.pc back.0) in
       let a2 = link_agrees store s1 target r.agrees in
       let mem : s2.memory ≡ s.memory = fields.0 ∙ w1.memory in
       let link : register s2.registers 1 ≡ address_of (k1 + 1) = ap (λ e. e 1) fields.2 ∙ next in

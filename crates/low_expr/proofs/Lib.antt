@@ -22,6 +22,7 @@ pub mod LogicNodes
 pub mod ConditionalNodes
 pub mod ArgumentNodes
 pub mod MachineCallNodes
+pub mod LinkingJumps
 pub mod FunctionCallNodes
 pub mod ExpressionsFollow
 pub mod AboveOperands

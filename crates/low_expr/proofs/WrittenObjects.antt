@@ -4,7 +4,6 @@ use Rattle.std.specs.Prelude.{Bool, true, false, bit_and, ◌==◌, if◌then◌
 use Rattle.std.specs.List.{list_any}
 use Rattle.std.proofs.lemmas.Bool.{and_parts, eqb-true, cases_lt}
 use Rattle.std.proofs.lemmas.Nat.{and_mask}
-use Rattle.std.proofs.Math.ListN.{length-set}
 use Rattle.bop_bits.specs.declared.map.TheConstants.{CODE_WORDS, DATA_FROM, STACK_TO}
 use Rattle.bop_bits.specs.MemoryNumbers.{byte_at}
 use Rattle.rv_code.specs.declared.effect.Effect.TheVariants.{Stores}
@@ -18,7 +17,8 @@ use Rattle.c_tree.specs.declared.undefined.Undefined.TheVariants.{Access}
 use Rattle.c_semantics.specs.declared.kind.Held.{Held}
 use Rattle.c_semantics.specs.declared.kind.Held.TheVariants.{Byte, Word, Array}
 use Rattle.c_semantics.specs.Run.{Store, pure, ◌>>◌, change, undefined, then_run}
-use Rattle.c_semantics.specs.Memory.{holds, is_fine, digits, with_bytes, with_byte, write, store_at}
+use Rattle.c_semantics.specs.Memory.{holds, is_fine, digits, with_bytes, write, store_at}
+use Rattle.c_semantics.proofs.WrittenMemory.{length-with_bytes}
 use Rattle.low_labels.specs.Operation.{Operation, width_of}
 use Rattle.low_labels.specs.Operation as op
 use Rattle.low_labels.specs.Placed.{HasAt}
@@ -33,13 +33,6 @@ use Rattle.low_expr.proofs.CodePiecesLemmas.{Takes, takes_append, takes_none}
 use Rattle.low_expr.proofs.Composing.{framed_then}
 use Rattle.low_expr.proofs.KeptValues.{all_width, width-append, reached, stored_state, comes_stored, next_place, then_kept}
 
-length-with_bytes : (bs : List ℕ) (at : ℕ) (bytes : List (Option ℕ))
-    → length (with_bytes at bs bytes) ≡ length bytes
-length-with_bytes [] at bytes = refl
-length-with_bytes (b ∷ bs) at bytes =
-    length-with_bytes bs (at + 1) (with_byte at (Some b) bytes)
-    ∙ length-set bytes (at - DATA_FROM) (Some b)
-
 -- a dead byte isn't among those that an object holds
 dead_apart : (store : Store) (at size b : ℕ) → list_any (holds at size) store.live ≡ true
     → (Lives store b → ⊥) → (b < at) ⊎ (at + size ≤ b)
@@ -53,11 +46,11 @@ dead_apart store at size b live dead =
         omega arith in subst (Lives store) e
         (lives_in store.live at size (b - at) (omega arith) live)
 
-abbrev with_object : Store → (size at v : ℕ) → Store
+abbrev pub with_object : Store → (size at v : ℕ) → Store
 with_object store size at v = record store { bytes = with_bytes at (digits size v) store.bytes }
 
 -- the store and the memory after a write
-stored_agrees : (store : Store) (s : State) (size at v : ℕ) → Agrees store s → DATA_FROM ≤ at
+pub stored_agrees : (store : Store) (s : State) (size at v : ℕ) → Agrees store s → DATA_FROM ≤ at
     → at + size ≤ STACK_TO → Agrees (with_object store size at v) (stored_state s at size v)
 unfolding stored_state
 stored_agrees store s size at v a low high = record {
@@ -73,7 +66,7 @@ stored_agrees store s size at v a low high = record {
   cells = length-with_bytes (digits size v) at store.bytes ∙ a.cells;
 }
 
-stored_keeps : (frame slots : ℕ) (store : Store) (s : State) (size at v from to : ℕ)
+pub stored_keeps : (frame slots : ℕ) (store : Store) (s : State) (size at v from to : ℕ)
     → Framed frame slots store → list_any (holds at size) store.live ≡ true → DATA_FROM ≤ at
     → Keeps store from to s.memory (stored_state s at size v).memory
 unfolding stored_state
@@ -83,7 +76,7 @@ stored_keeps frame slots store s size at v from to f live low = record {
       (dead_apart store at size b live dead);
 }
 
-stored_fields : (s : State) (at size v : ℕ)
+pub stored_fields : (s : State) (at size v : ℕ)
     → ((stored_state s at size v).pc ≡ sum s.pc 4)
     × ((stored_state s at size v).registers ≡ s.registers)
 unfolding stored_state

@@ -41,7 +41,8 @@ use Rattle.low_stmt.specs.TextSimulation.{program_of, ComesTo, IsSimulatedText, 
 use Rattle.low_stmt.proofs.FunctionsFollow.{fun_done}
 use Rattle.low_stmt.proofs.CallsLemmas.{label_is, function_placed, calls_follow}
 use Rattle.low_stmt.proofs.FirstBytes.{cells_length, memory_length, memory_small, memory_at, between, between_inside}
-use Rattle.low_stmt.proofs.Linking.{with_stack, stack_agrees, linked, link_agrees, link_fields, link_comes}
+use Rattle.low_expr.proofs.LinkingJumps.{linked, link_agrees, link_fields, link_comes}
+use Rattle.low_stmt.proofs.StackChanges.{with_stack, stack_agrees}
 
 module _ (text : List Item) (ready : IsReadyText text) (code input : List ℕ) (labels : ℕ → ℕ)
     (short : length code ≤ CODE_WORDS) (bytes : All (λ b. b < 2 ^ 8) input)

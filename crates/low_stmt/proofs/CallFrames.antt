@@ -8,7 +8,7 @@ use Rattle.c_semantics.specs.Run.{Store}
 use Rattle.low_expr.specs.Agreement.{Framed}
 use Rattle.low_stmt.specs.FunCode.{last_word}
 use Rattle.low_stmt.specs.StmtSimulation.{IsFrame}
-use Rattle.low_stmt.proofs.Linking.{with_stack}
+use Rattle.low_stmt.proofs.StackChanges.{with_stack}
 
 pub end_after : (at : ℕ) (rs : List ℕ) → at ≤ end_from at rs
 end_after at [] = omega arith

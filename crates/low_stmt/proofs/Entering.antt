@@ -29,7 +29,7 @@ use Rattle.low_expr.proofs.CodeLengths.{number_length}
 use Rattle.low_expr.proofs.KeptValues.{all_width, width-append, has_front, has_back, has_after, Reached, reached, stored_state, comes_stored, next_place}
 use Rattle.low_expr.proofs.BranchLemmas.{moved, moved_same, agrees_moved, branch_taken, branch_passed}
 use Rattle.low_stmt.specs.FunCode.{last_word, enter_code}
-use Rattle.low_stmt.proofs.Linking.{stack_agrees}
+use Rattle.low_stmt.proofs.StackChanges.{stack_agrees}
 use Rattle.low_stmt.proofs.CallFrames.{Sized, deeper, deeper_framed}
 
 -- a function has been entered: the return address is in the frame's last word, and the registers of

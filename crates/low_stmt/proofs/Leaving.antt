@@ -22,7 +22,7 @@ use Rattle.low_expr.proofs.CodeLengths.{number_length, slot_length}
 use Rattle.low_expr.proofs.KeptValues.{has_front, has_after}
 use Rattle.low_expr.proofs.BranchLemmas.{aligned_place, moved, moved_same, agrees_moved}
 use Rattle.low_stmt.specs.FunCode.{last_word, leave_code}
-use Rattle.low_stmt.proofs.Linking.{with_stack, stack_agrees}
+use Rattle.low_stmt.proofs.StackChanges.{with_stack, stack_agrees}
 
 -- the stack pointer as it was
 abbrev pub higher : ℕ → Store → Store

@@ -9,7 +9,7 @@ pub mod Returns
 pub mod MarkerCalls
 pub mod CodedStatements
 pub mod StatementsFollow
-pub mod Linking
+pub mod StackChanges
 pub mod CallFrames
 pub mod Entering
 pub mod PassedArguments

@@ -1,10 +1,10 @@
 -- A value is written into an object, with a few instructions that no step of their own pays for.
-use Rattle.std.proofs.Common.{◌≡◌, ◌≢◌, ℕ, ◌+◌, ◌-◌, ◌%◌, ◌^◌, ◌<◌, ◌≤◌, ◌⊎◌, List, [], ◌∷◌, ◌++◌, length, refl, sym, ap, ◌∙◌, subst, arith, ⊎_elim, inl, inr, length-append}
+use Rattle.std.proofs.Common.{◌≡◌, ◌≢◌, ℕ, ◌+◌, ◌%◌, ◌^◌, ◌<◌, ◌≤◌, List, [], ◌∷◌, ◌++◌, length, refl, sym, ap, ◌∙◌, subst, arith, length-append}
 use Rattle.std.specs.Prelude.{Bool, true, false, bit_and, ◌==◌, if◌then◌else◌, pos}
 use Rattle.std.specs.List.{list_any}
-use Rattle.std.proofs.lemmas.Bool.{and_parts, eqb-true, cases_lt}
+use Rattle.std.proofs.lemmas.Bool.{and_parts, eqb-true}
 use Rattle.std.proofs.lemmas.Nat.{and_mask}
-use Rattle.bop_bits.specs.declared.map.TheConstants.{CODE_WORDS, DATA_FROM, STACK_TO}
+use Rattle.bop_bits.specs.declared.map.TheConstants.{CODE_WORDS}
 use Rattle.bop_bits.specs.MemoryNumbers.{byte_at}
 use Rattle.rv_code.specs.declared.effect.Effect.TheVariants.{Stores}
 use Rattle.rv_code.specs.declared.instr.Instr.{Instr}
@@ -17,70 +17,20 @@ use Rattle.c_tree.specs.declared.undefined.Undefined.TheVariants.{Access}
 use Rattle.c_semantics.specs.declared.kind.Held.{Held}
 use Rattle.c_semantics.specs.declared.kind.Held.TheVariants.{Byte, Word, Array}
 use Rattle.c_semantics.specs.Run.{Store, pure, ◌>>◌, change, undefined, then_run}
-use Rattle.c_semantics.specs.Memory.{holds, is_fine, digits, with_bytes, write, store_at}
-use Rattle.c_semantics.proofs.WrittenMemory.{length-with_bytes}
+use Rattle.c_semantics.specs.Memory.{holds, is_fine, write, store_at}
 use Rattle.low_labels.specs.Operation.{Operation, width_of}
 use Rattle.low_labels.specs.Operation as op
 use Rattle.low_labels.specs.Placed.{HasAt}
 use Rattle.low_expr.specs.CodePieces.{narrow_by, all_do}
-use Rattle.low_expr.specs.Agreement.{Agrees, Framed, Lives, Keeps}
+use Rattle.low_expr.specs.Agreement.{Agrees, Framed, Keeps}
 use Rattle.low_expr.specs.Following.{Follows}
-use Rattle.low_expr.proofs.MemoryNumbersLemmas.{length-with_number, other_byte, AreBytes-with_number}
-use Rattle.low_expr.proofs.StoredBytes.{stored_matches, lives_in, held_inside}
+use Rattle.low_expr.proofs.StoredBytes.{held_inside}
 use Rattle.low_expr.proofs.PlainCode.{Env, with_env, effect_in, then_comes, is_place_of}
 use Rattle.low_expr.proofs.CodePiecesLemmas.{Takes, takes_append, takes_none, with_other}
 use Rattle.low_expr.proofs.KeptValues.{all_width, width-append, reached, stored_state, comes_stored, next_place}
+use Rattle.low_expr.proofs.WrittenObjects.{with_object, stored_agrees, stored_keeps, stored_fields}
 use Rattle.low_stmt.specs.StmtCode.{write_code}
 use Rattle.low_stmt.proofs.StatementParts.{with_credit}
-
--- a dead byte isn't among those that an object holds
-dead_apart : (store : Store) (at size b : ℕ) → list_any (holds at size) store.live ≡ true
-    → (Lives store b → ⊥) → (b < at) ⊎ (at + size ≤ b)
-dead_apart store at size b live dead =
-    ⊎_elim (λ lt. inl lt)
-    (λ ge. ⊎_elim (λ lt. absurd (dead (in_it lt ge))) (λ past. inr past) (cases_lt b (at + size)))
-    (cases_lt b at)
-  where
-    in_it : b < at + size → at ≤ b → Lives store b
-    in_it lt ge = let e : at + (b - at) ≡ b =
-        omega arith in subst (Lives store) e
-        (lives_in store.live at size (b - at) (omega arith) live)
-
-abbrev with_object : Store → (size at v : ℕ) → Store
-with_object store size at v = record store { bytes = with_bytes at (digits size v) store.bytes }
-
--- the store and the memory after a write
-stored_agrees : (store : Store) (s : State) (size at v : ℕ) → Agrees store s → DATA_FROM ≤ at
-    → at + size ≤ STACK_TO → Agrees (with_object store size at v) (stored_state s at size v)
-unfolding stored_state
-stored_agrees store s size at v a low high = record {
-  bytes = λ b w lives h.
-      stored_matches size at v (b - DATA_FROM) w store.bytes s.memory low (omega (arith, a.memory))
-      (λ u g. a.bytes b u lives g) h;
-  small = AreBytes-with_number s.memory at size v a.small;
-  stack = a.stack;
-  cursor = a.cursor;
-  output = a.output;
-  memory = length-with_number s.memory at size v ∙ a.memory;
-  registers = a.registers;
-  cells = length-with_bytes (digits size v) at store.bytes ∙ a.cells;
-}
-
-stored_keeps : (frame slots : ℕ) (store : Store) (s : State) (size at v from to : ℕ)
-    → Framed frame slots store → list_any (holds at size) store.live ≡ true → DATA_FROM ≤ at
-    → Keeps store from to s.memory (stored_state s at size v).memory
-unfolding stored_state
-stored_keeps frame slots store s size at v from to f live low = record {
-  by = λ b ge dead off.
-      other_byte s.memory at size v b low (omega (arith, f.above, f.is))
-      (dead_apart store at size b live dead);
-}
-
-stored_fields : (s : State) (at size v : ℕ)
-    → ((stored_state s at size v).pc ≡ sum s.pc 4)
-    × ((stored_state s at size v).registers ≡ s.registers)
-unfolding stored_state
-stored_fields s at size v = (refl, refl)
 
 -- the other registers have what they had
 abbrev pub HasRegisters : Env → Unit {0} → State → Type 0

@@ -1,4 +1,4 @@
--- A jump that keeps the next address, and registers that change with the stack pointer.
+-- A jump that keeps the next address in register 1.
 use Rattle.std.proofs.Common.{◌≡◌, ℕ, ◌+◌, ◌%◌, ◌^◌, ◌<◌, List, length, refl, sym, ap, ◌∙◌, subst, arith}
 use Rattle.std.specs.Prelude.{slice_index}
 use Rattle.bop_bits.specs.MemoryNumbers.{byte_at}
@@ -13,24 +13,6 @@ use Rattle.low_expr.specs.Agreement.{Agrees}
 use Rattle.low_expr.specs.Following.{Comes}
 use Rattle.low_expr.proofs.PlainCode.{Env, with_env, Went, one, eq_true, with_is, length-with_register}
 use Rattle.low_expr.proofs.BranchLemmas.{aligned_place}
-
--- the store with another stack pointer
-abbrev pub with_stack : ℕ → Store → Store
-with_stack sp store = record store { sp = sp }
-
--- registers changed, among them the stack pointer
-pub stack_agrees : (code input : List ℕ) (sp j i : ℕ) (env : Env) (store : Store) (s s' : State)
-    → Agrees store s → Went code input j i env s s' → env 2 ≡ sp → Agrees (with_stack sp store) s'
-stack_agrees code input sp j i env store s s' a w is = record {
-  bytes = λ at v lives h. ap (λ m. byte_at m at) w.memory ∙ a.bytes at v lives h;
-  small = λ at. subst (λ m. slice_index m at < 2 ^ 8) (sym w.memory) (a.small at);
-  stack = ap (λ e. e 2) w.is ∙ is;
-  cursor = w.cursor ∙ a.cursor;
-  output = w.output ∙ a.output;
-  memory = ap length w.memory ∙ a.memory;
-  registers = w.registers;
-  cells = a.cells;
-}
 
 unfoldable pub linked : State → (pc : ℕ) → State
 linked s pc = record s {
