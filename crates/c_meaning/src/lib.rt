@@ -11,6 +11,7 @@ mod pending;
 mod planning;
 mod turning;
 
+pub use machine::starting::first_bytes;
 pub use meaning::evaluate;
 pub use meant::Meant;
 pub use output::Output;

@@ -4,8 +4,7 @@ use Rattle.std.specs.Prelude.{option_map, bytes_eq}
 use Rattle.c_tree.specs.Blocks.{Blocks, no_blocks, otherwise, look_outer, look, declared, entered}
 use Rattle.c_tree.proofs.BlocksLemmas.{look_entered}
 use Rattle.c_resolve.specs.declared.named.Named.{Named as Coded}
-use Rattle.c_resolve.specs.DeclaredNames.{named}
-use Rattle.c_resolve.specs.private.Resolved.{names_at}
+use Rattle.c_resolve.specs.DeclaredNames.{named, names_at}
 use Rattle.c_semantics.specs.Names.{Definition, no_names, with_name}
 
 module _ (definitions : List Definition) where

@@ -20,7 +20,8 @@ use Rattle.c_resolve.specs.declared.typed.Typed.{Typed}
 use Rattle.c_semantics.specs.Names.{Definition, held, held_by, operand_by, types}
 use Rattle.c_semantics.specs.Eval.{binary_run, unary_run, stepped, assign_run, conditional_run, strict}
 use Rattle.c_resolve.specs.Nodes.{Runs, runs, placed, valued, pointer, cast_run}
-use Rattle.c_resolve.specs.private.Resolved.{NodeDoes, names_in, scope, runs_of, loaded, IsTypeOf, IsNodeOf}
+use Rattle.c_resolve.specs.private.Resolved.{NodeDoes, scope, runs_of, loaded, IsNodeOf}
+use Rattle.c_resolve.specs.DeclaredNames.{names_in, IsTypeOf}
 use Rattle.c_resolve.proofs.ResolvedLemmas.{converts}
 use Rattle.c_resolve.specs.Context.{Context}
 

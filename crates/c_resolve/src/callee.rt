@@ -10,7 +10,8 @@ ghost use Rattle.c_semantics.specs.Eval.{called};
 ghost use Rattle.c_semantics.specs.Names.{Definition, types};
 ghost use Rattle.c_resolve.specs.Context.{Context};
 ghost use Rattle.c_resolve.specs.Nodes.{target_run};
-ghost use Rattle.c_resolve.specs.private.Resolved.{names_in, scope};
+ghost use Rattle.c_resolve.specs.private.Resolved.{scope};
+ghost use Rattle.c_resolve.specs.DeclaredNames.{names_in};
 
 use crate::named::Named;
 use crate::names::Names;
@@ -35,7 +36,7 @@ pub(super) fn target(callee: &Callee, names: &Names) -> Target
 }
 
 /// What it takes.
-pub(super) fn parameters<'a>(callee: &Callee, names: &'a Names) -> Parameters<'a>
+pub fn parameters<'a>(callee: &Callee, names: &'a Names) -> Parameters<'a>
     ensures { (definitions : List Definition)
         → parameters result ≡ parameters_of
         (named (types (names_in definitions names.now)) callee.now) }
@@ -51,7 +52,7 @@ pub(super) fn parameters<'a>(callee: &Callee, names: &'a Names) -> Parameters<'a
 }
 
 /// The type of its value, where it has one.
-pub(super) fn value_type<'a>(callee: &Callee, names: &'a Names) -> Option<Seen<'a>>
+pub fn value_type<'a>(callee: &Callee, names: &'a Names) -> Option<Seen<'a>>
     ensures { (definitions : List Definition)
         → seen_some result ≡ result_of (named (types (names_in definitions names.now)) callee.now) }
 {

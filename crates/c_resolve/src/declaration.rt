@@ -5,7 +5,8 @@ ghost use Rattle.c_tree.specs.Declarators.{declared_shape};
 ghost use Rattle.c_tree.specs.View.{first_of, var_of, ty_of};
 ghost use Rattle.c_layout.specs.Frames.{beginning_locals};
 ghost use Rattle.c_layout.specs.Sizes.{size};
-ghost use Rattle.c_resolve.specs.private.Acted.{IsKept, AreNames, IsInitOf, ArePassedOf, IsBeginningOf, own_at};
+ghost use Rattle.c_resolve.specs.private.Acted.{AreNames, IsInitOf, ArePassedOf, IsBeginningOf, own_at};
+ghost use Rattle.c_resolve.specs.DeclaredNames.{IsKept};
 ghost use Rattle.c_semantics.specs.Exec.{has_init, first_place, declared_locals, beginning_own, named_beginning, with_local, with_locals_named};
 ghost use Rattle.c_semantics.specs.Names.{held};
 
@@ -21,7 +22,7 @@ use c_types::{array_of, pointer_to};
 use std::alloc::Global;
 
 /// The type that a declarator declares.
-pub(super) fn declared_type(alloc: Global, v: &Var) -> Result<CType, OutOfMemory>
+pub fn declared_type(alloc: Global, v: &Var) -> Result<CType, OutOfMemory>
     ensures { IfOk result (λ ty. ty_of ty ≡ declared_shape (var_of v.now)) }
 {
     let element = pointer_to(alloc, &v.base, v.stars)?;
@@ -29,7 +30,7 @@ pub(super) fn declared_type(alloc: Global, v: &Var) -> Result<CType, OutOfMemory
 }
 
 /// Whether a declarator has an initialiser.
-pub(super) fn has_init(vars: &[Var]) -> bool
+pub fn has_init(vars: &[Var]) -> bool
     ensures { result ≡ has_init (map var_of vars.now) }
 {
     for v in vars {
@@ -139,7 +140,7 @@ pub(super) fn resolve_vars(
 }
 
 /// How many objects a `for` declares itself.
-pub(super) fn first_count(first: &First) -> usize
+pub fn first_count(first: &First) -> usize
     ensures { result ≡ length (beginning_locals (first_of first.now)) }
 {
     match first {

@@ -10,7 +10,8 @@ ghost use Rattle.c_rules.specs.Seen.{is_flat};
 ghost use Rattle.c_tree.specs.FirstOperand.{first_operand};
 ghost use Rattle.c_rules.specs.Spine.{below, down};
 ghost use Rattle.c_semantics.specs.Names.{Definition, types};
-ghost use Rattle.c_resolve.specs.private.Resolved.{names_in, IsTypeOf, IsNodeOf, AreArgumentsOf};
+ghost use Rattle.c_resolve.specs.private.Resolved.{IsNodeOf, AreArgumentsOf};
+ghost use Rattle.c_resolve.specs.DeclaredNames.{names_in, IsTypeOf};
 
 use crate::callee::{parameters, target, value_type};
 use crate::named::Named;

@@ -5,7 +5,8 @@ ghost use Rattle.c_tree.specs.Declarators.{parameter_shape};
 ghost use Rattle.c_tree.specs.View.{fun_of, param_of, stmts_of};
 ghost use Rattle.c_layout.specs.Frames.{frame_of};
 ghost use Rattle.c_layout.specs.LayoutAnswers.{planned_of};
-ghost use Rattle.c_resolve.specs.private.Acted.{IsKept, IsSame, AreNames, IsRoutineOf, parameters_at};
+ghost use Rattle.c_resolve.specs.private.Acted.{AreNames, IsRoutineOf, parameters_at};
+ghost use Rattle.c_resolve.specs.DeclaredNames.{IsKept, IsSame};
 ghost use Rattle.c_semantics.specs.Meaning.{main_name, parameter_locals, with_parameter, with_parameters};
 
 use crate::kinds::{held_of, size};
@@ -24,7 +25,7 @@ use std::alloc::Global;
 pub(super) const MAIN: &[u8] = b"main";
 
 /// Whether a name is `main`.
-pub(super) fn is_main(name: &Name) -> bool
+pub fn is_main(name: &Name) -> bool
     ensures { result ≡ bytes_eq name.now main_name }
 {
     name.get() == MAIN

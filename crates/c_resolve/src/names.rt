@@ -3,8 +3,7 @@
 ghost use Rattle.std.specs.Prelude.{◌≡◌, ◌<◌, ◌++◌, ◌∷◌, [], List, length, OnOk, OnErr, option_map};
 ghost use Rattle.std.specs.Option.{option_copied};
 ghost use Rattle.c_tree.specs.Blocks.{entered};
-ghost use Rattle.c_resolve.specs.DeclaredNames.{named};
-ghost use Rattle.c_resolve.specs.private.Acted.{IsKept, IsSame};
+ghost use Rattle.c_resolve.specs.DeclaredNames.{named, IsKept, IsSame};
 ghost use Rattle.c_semantics.specs.Names.{Definition, with_name, no_names};
 
 use crate::named::Named;
@@ -20,7 +19,7 @@ pub struct Names {
 }
 
 impl Names {
-    ghost use Rattle.c_resolve.specs.private.Resolved.{blocks_in, names_in};
+    ghost use Rattle.c_resolve.specs.DeclaredNames.{blocks_in, names_in};
 
     pub fn new(alloc: Global) -> Names
         ensures { (definitions : List Definition) → names_in definitions result ≡ no_names }
@@ -29,6 +28,13 @@ impl Names {
             alloc,
             scope: Scope::new(alloc),
         }
+    }
+
+    /// Where names take their memory.
+    pub fn alloc(&self) -> Global
+        ensures { result ≡ self.now.alloc }
+    {
+        self.alloc
     }
 
     /// Opens a block within the innermost one.

@@ -13,7 +13,7 @@ use std::collections::BTreeMap;
 
 /// Functions that are defined, by their names: each with its number in the order of the text, which is the first where a name is defined again.
 #[derive(Drop)]
-pub(super) struct Numbers {
+pub struct Numbers {
     alloc: Global,
     numbers: BTreeMap<Vec<u8>, u32>,
     count: u32,
@@ -31,8 +31,15 @@ impl Numbers {
         }
     }
 
+    /// How many definitions there are.
+    pub fn count(&self) -> u32
+        ensures { result ≡ self.now.count }
+    {
+        self.count
+    }
+
     /// A name's number.
-    pub(super) fn find(&self, name: &[u8]) -> Option<u32>
+    pub fn find(&self, name: &[u8]) -> Option<u32>
         ensures { result ≡ indexed_at self.now.numbers name.now }
     {
         self.numbers.get(name).copied()
@@ -86,7 +93,7 @@ impl Numbers {
 }
 
 /// The numbers of the functions that items define.
-pub(super) fn number_all(alloc: Global, items: &[Item]) -> Result<Numbers, OutOfMemory>
+pub fn number_all(alloc: Global, items: &[Item]) -> Result<Numbers, OutOfMemory>
     ensures { IfOk result (λ numbers. AreNumbersOf numbers
         (definitions_of (map item_of items.now))) }
 {

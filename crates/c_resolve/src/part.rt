@@ -44,7 +44,8 @@ pub(super) fn build_name<'a>(home: Home, ty: Option<Seen<'a>>, at: Place) -> Typ
     Typed { node, ty }
 }
 
-fn unary_type<'a>(op: Unary, of_place: bool, ty: Option<Seen<'a>>) -> Option<Seen<'a>>
+/// The type of an operator before its operand.
+pub fn unary_type<'a>(op: Unary, of_place: bool, ty: Option<Seen<'a>>) -> Option<Seen<'a>>
     requires { of_place ≡ true → is_flat ty ≡ true }
     ensures ty { seen_some result ≡ unary_type op of_place (seen_some ty.entry) }
     ensures flat { is_at op ≡ true → is_flat result ≡ true }
@@ -224,7 +225,8 @@ pub(super) fn build_assign<'a>(
     Ok(Typed { node, ty })
 }
 
-fn index_type<'a>(a: Option<Seen<'a>>, b: Option<Seen<'a>>) -> Option<Seen<'a>>
+/// The type of an element of an array.
+pub fn index_type<'a>(a: Option<Seen<'a>>, b: Option<Seen<'a>>) -> Option<Seen<'a>>
     ensures ty { seen_some result ≡ both index_rule (seen_some a.entry) (seen_some b.entry) }
     ensures flat { is_flat result ≡ true }
 {

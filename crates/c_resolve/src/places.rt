@@ -15,7 +15,7 @@ pub fn past<'a>(numbers: &'a [u32], count: usize) -> &'a [u32]
 }
 
 /// The first offset, or 0 where there is none.
-pub(super) fn first_place(places: &[u32]) -> u32
+pub fn first_place(places: &[u32]) -> u32
     ensures { result ≡ first_place places.now }
 {
     match places.first() {

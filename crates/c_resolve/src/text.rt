@@ -5,10 +5,9 @@ ghost use Rattle.c_tree.specs.Item.{Item as PureItem};
 ghost use Rattle.c_tree.specs.View.{var_of, fun_of, item_of, items_of, stmts_of};
 ghost use Rattle.c_layout.specs.Laid.{plan};
 ghost use Rattle.c_layout.specs.LayoutAnswers.{plan_of};
-ghost use Rattle.c_resolve.specs.private.Acted.{AreNames, IsSame, HasNext, AddsRoutines};
-ghost use Rattle.c_resolve.specs.DeclaredNames.{numbered};
+ghost use Rattle.c_resolve.specs.private.Acted.{AreNames, HasNext, AddsRoutines};
+ghost use Rattle.c_resolve.specs.DeclaredNames.{IsSame, numbered, names_in};
 ghost use Rattle.c_semantics.specs.Meaning.{definition, main_name, names as known_names, names_of, with_function, with_globals};
-ghost use Rattle.c_resolve.specs.private.Resolved.{names_in};
 ghost use Rattle.c_resolve.specs.Routines.{definitions_of, AreNumbersOf, AreRoutinesOf};
 
 use crate::declaration::declared_type;
@@ -103,7 +102,7 @@ fn declare_item<'a>(
 }
 
 /// The names of a text, in a layout of it.
-fn text_names(
+pub fn text_names(
     alloc: Global,
     tree: &Tree,
     layout: &Layout,

@@ -134,7 +134,8 @@ landed_leads t code input store from from0 to to0 n end s store' n' j s' le ge l
 }
 
 -- What comes after a value: a few instructions that write no memory, and then a part by its terms.
-abbrev pub Continues : {B : Type 0} → (p u t : Terms) → (code input : List ℕ) → Store → (from to n : ℕ)
+abbrev pub Continues : {B : Type 0} → (p u t : Terms) → (code input : List ℕ) → Store
+    → (from to n : ℕ)
     → (B → ℕ) → State → (B → State → Type 0) → Ended B → Type 0
 Continues p u t code input store1 from to n1 ends s1 W r =
     (k : ℕ) × (s2 : State) × Allows p.slack (p.credit + k) u t × Comes code input k s1 s2

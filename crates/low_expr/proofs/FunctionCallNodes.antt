@@ -1,30 +1,27 @@
 -- The call of a function.
 use Rattle.std.proofs.Common.{◌≡◌, ℕ, ◌+◌, ◌%◌, ◌^◌, ◌<◌, ◌≤◌, List, [], ◌∷◌, ◌++◌, length, refl, sym, ap, ◌∙◌, subst, arith, Option, Some, None}
 use Rattle.bop_bits.specs.declared.map.TheConstants.{CODE_WORDS}
-use Rattle.rv_code.specs.declared.instr.Instr.TheVariants.{Jal}
-use Rattle.rv_code.specs.declared.effect.Effect.TheVariants.{Links}
-use Rattle.rv_code.specs.Word.{sum, word}
-use Rattle.rv_code.specs.State.{State, register, with_register}
-use Rattle.rv_code.specs.Step.{address_of, performs, links}
+use Rattle.rv_code.specs.Word.{sum}
+use Rattle.rv_code.specs.State.{State, register}
+use Rattle.rv_code.specs.Step.{address_of}
 use Rattle.c_semantics.specs.Run.{Store}
 use Rattle.c_semantics.specs.Names.{Definition}
 use Rattle.c_semantics.specs.Eval.{Calls}
 use Rattle.c_semantics.proofs.RunLemmas.{then_pure}
 use Rattle.low_labels.specs.Operation.{Operation, width_of}
 use Rattle.low_labels.specs.Operation as op
-use Rattle.low_labels.specs.Placed.{HasJump, HasAt}
+use Rattle.low_labels.specs.Placed.{HasAt}
 use Rattle.low_expr.specs.CodePieces.{all_do, find_slot, put_slot, keep}
 use Rattle.low_expr.specs.ExprCode.{arguments_into}
 use Rattle.low_expr.specs.Agreement.{Agrees, Framed, Keeps, InSlots, Passed, Returned}
 use Rattle.low_expr.specs.Following.{Terms, Comes, Follows, CallsFollow, for_expression, for_function}
 use Rattle.low_expr.proofs.MemoryNumbersLemmas.{AreBytes}
-use Rattle.low_expr.proofs.PlainCode.{Env, with_env, one, then_comes, eq_true, with_is, length-with_register, is_place_of, above_apart}
+use Rattle.low_expr.proofs.PlainCode.{Env, then_comes, is_place_of, above_apart}
 use Rattle.low_expr.proofs.CodePiecesLemmas.{Takes, takes_none, with_other}
 use Rattle.low_expr.proofs.Composing.{few_before, few_after, all_follows, framed_then, wider}
 use Rattle.low_expr.proofs.KeptValues.{all_width, width-append, first_place, reached, next_place, kept}
 use Rattle.low_expr.proofs.CodeLengths.{arguments_length}
 use Rattle.low_expr.proofs.ValueNodes.{slot_fits}
-use Rattle.low_expr.proofs.BranchLemmas.{aligned_place}
 use Rattle.low_expr.proofs.LinkingJumps.{linked, link_agrees, link_fields, link_comes}
 use Rattle.low_expr.proofs.ArgumentNodes.{with_all, with_all_other, PassedIn, all_passed, arguments_take, KeptIn, CallAct}
 

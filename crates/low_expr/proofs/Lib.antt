@@ -1,3 +1,13 @@
+pub mod Emitting
+pub mod MarkLemmas
+pub mod LabelNumbers
+pub mod WantedLemmas
+pub mod CodeMarks
+pub mod FirstOperands
+pub mod LoweredParts
+pub mod SecondOperands
+pub mod LoweredBranches
+pub mod LoweredCalls
 pub mod MemoryNumbersLemmas
 pub mod StoredBytes
 pub mod PlainCode

@@ -1,7 +1,5 @@
 -- A jump that keeps the next address in register 1.
-use Rattle.std.proofs.Common.{◌≡◌, ℕ, ◌+◌, ◌%◌, ◌^◌, ◌<◌, List, length, refl, sym, ap, ◌∙◌, subst, arith}
-use Rattle.std.specs.Prelude.{slice_index}
-use Rattle.bop_bits.specs.MemoryNumbers.{byte_at}
+use Rattle.std.proofs.Common.{◌≡◌, ℕ, ◌+◌, ◌%◌, List, length, refl, ap, ◌∙◌, arith}
 use Rattle.rv_code.specs.declared.instr.Instr.TheVariants.{Jal}
 use Rattle.rv_code.specs.declared.effect.Effect.TheVariants.{Links}
 use Rattle.rv_code.specs.Word.{sum, word}
@@ -11,7 +9,7 @@ use Rattle.c_semantics.specs.Run.{Store}
 use Rattle.low_labels.specs.Placed.{HasJump}
 use Rattle.low_expr.specs.Agreement.{Agrees}
 use Rattle.low_expr.specs.Following.{Comes}
-use Rattle.low_expr.proofs.PlainCode.{Env, with_env, Went, one, eq_true, with_is, length-with_register}
+use Rattle.low_expr.proofs.PlainCode.{with_env, one, eq_true, with_is, length-with_register}
 use Rattle.low_expr.proofs.BranchLemmas.{aligned_place}
 
 unfoldable pub linked : State → (pc : ℕ) → State

@@ -8,3 +8,6 @@ pub mod Readiness
 pub mod Bound
 pub mod ExprSimulation
 pub mod FittingNames
+pub mod LabelledNames
+pub mod Lowering
+pub mod private

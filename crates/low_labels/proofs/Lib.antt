@@ -1,3 +1,3 @@
 mod ClosedLemmas
-mod EmissionLemmas
+pub mod EmissionLemmas
 mod Standing

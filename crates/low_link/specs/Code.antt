@@ -1,8 +1,9 @@
 -- The code of a text of the form.
-use Rattle.std.specs.Prelude.{◌≡◌, ℕ, ℤ, pos, ◌+◌, ◌/◌, List, [], ◌∷◌, ◌++◌}
+use Rattle.std.specs.Prelude.{◌≡◌, ℕ, ℤ, pos, ◌+◌, ◌/◌, List, [], ◌∷◌, ◌++◌, replicate}
 use Rattle.std.specs.Int.{w32, cast_unsigned}
 use Rattle.bop_bits.specs.Bits.{signed_of}
 use Rattle.rv_code.specs.declared.instr.Instr.TheVariants.{Lui, Addi, Ecall}
+use Rattle.bop_bits.specs.declared.class.Classes.{Classes}
 use Rattle.bop_bits.specs.declared.map.TheConstants.{CODE_FROM}
 use Rattle.rv_code.specs.declared.call.TheConstants.{A0, A7}
 use Rattle.rv_code.specs.declared.program.Program.{Program}
@@ -33,10 +34,19 @@ return_code exit = word_of (Lui A0 (upper_of exit)) ∷ word_of (Addi A0 A0 (low
 abbrev pub code_of : List ℕ → ℤ → List ℕ
 code_of characters exit = puts_code characters ++ return_code exit
 
--- the program is entered at its first word, and has no data
+-- no page of such a program is checked or private
+abbrev pub no_classes : Classes
+no_classes = record { checked_from = 0; private_from = 0; private_to = 0 }
+
+-- the program is entered at its first word, and has no data and no regions
 abbrev pub program_of : List ℕ → ℤ → Program
-program_of characters exit =
-    record { code = code_of characters exit; bytes = []; entry = CODE_FROM }
+program_of characters exit = record {
+  code = code_of characters exit;
+  bytes = [];
+  classes = no_classes;
+  entry = CODE_FROM;
+  ends = replicate 256 0;
+}
 
 -- the program of a text
 pub record IsProgramOf (text : List ℕ) (program : Program) : Type 0 where

@@ -9,7 +9,7 @@ ghost use Rattle.low_link.specs.Code.{put_code, puts_code, return_code, code_of,
 
 use crate::Refused;
 use crate::form::read_form;
-use bop_bits::CODE_FROM;
+use bop_bits::{CODE_FROM, Classes};
 use rv_code::{A0, A7, Bytes, Instr, Program, Words, encode};
 use std::alloc::{AllocError, Global};
 
@@ -26,7 +26,13 @@ pub fn compile(alloc: Global, text: &[u8]) -> Result<Program, Refused>
     Ok(Program {
         code: Words::of(code),
         bytes: Bytes::of(Vec::new(alloc)),
+        classes: Classes {
+            checked_from: 0,
+            private_from: 0,
+            private_to: 0,
+        },
         entry: CODE_FROM,
+        ends: [0; 256],
     })
 }
 

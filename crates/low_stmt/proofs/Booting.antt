@@ -3,9 +3,10 @@ use Rattle.std.proofs.Common.{◌≡◌, ℕ, zero, suc, ◌+◌, ◌-◌, ◌^�
 use Rattle.std.specs.Prelude.{true, bytes_eq, pos}
 use Rattle.std.proofs.lemmas.List.{length-replicate}
 use Rattle.std.proofs.lemmas.Slice.Eq.{bytes_eq-Decides}
-use Rattle.bop_bits.specs.declared.map.TheConstants.{CODE_WORDS, DATA_FROM, STACK_TO}
+use Rattle.bop_bits.specs.declared.map.TheConstants.{CODE_WORDS, DATA_FROM, PAGE_BYTES, STACK_TO}
 use Rattle.rv_code.specs.declared.instr.Instr.{Instr}
 use Rattle.rv_code.specs.declared.instr.Instr.TheVariants as instr
+use Rattle.rv_code.specs.declared.program.Program.{Program}
 use Rattle.rv_code.specs.declared.stop.Stop.TheVariants as stop
 use Rattle.rv_code.specs.Effects.{call_of}
 use Rattle.rv_code.specs.State as machine
@@ -18,6 +19,7 @@ use Rattle.c_tree.specs.Ty as ty
 use Rattle.c_tree.specs.Item.{Item}
 use Rattle.c_tree.specs.Shapes.{is_void}
 use Rattle.c_layout.specs.Globals.{globals, private_end}
+use Rattle.c_layout.proofs.Nearness.{le_rounded}
 use Rattle.c_semantics.specs.Run.{Store, Ended, Goes, StackFull, More, Undef}
 use Rattle.c_semantics.specs.Names.{Definition}
 use Rattle.c_semantics.specs.Evaluated.{IsMain}
@@ -35,9 +37,10 @@ use Rattle.low_expr.proofs.CodePiecesLemmas.{constant_takes}
 use Rattle.low_expr.proofs.CodeLengths.{number_length}
 use Rattle.low_expr.proofs.KeptValues.{has_front, has_back, has_after, reached, next_place}
 use Rattle.low_stmt.specs.FunSimulation.{CallLeft}
-use Rattle.low_stmt.specs.TextCode.{label_of, functions_code, boot_code, text_code, region_labels, definitions_in}
+use Rattle.low_stmt.specs.TextCode.{label_of, functions_code, boot_code, text_code, definitions_in}
+use Rattle.low_stmt.specs.TextProgram.{program_with}
 use Rattle.low_stmt.specs.TextReadiness.{IsReadyText}
-use Rattle.low_stmt.specs.TextSimulation.{program_of, ComesTo, IsSimulatedText, DoesAs, DoesWhatIsMeant}
+use Rattle.low_stmt.specs.TextSimulation.{ComesTo, IsSimulatedText, DoesAs, DoesWhatIsMeant}
 use Rattle.low_stmt.proofs.FunctionsFollow.{fun_done}
 use Rattle.low_stmt.proofs.CallsLemmas.{label_is, function_placed, calls_follow}
 use Rattle.low_stmt.proofs.FirstBytes.{cells_length, memory_length, memory_small, memory_at, between, between_inside}
@@ -49,14 +52,15 @@ module _ (text : List Item) (ready : IsReadyText text) (code input : List ℕ) (
     (has : HasAt code labels 0 (text_code text)) where
   -- the machine's state at the start
   pub s0 : State
-  s0 = machine.start (program_of code text)
+  s0 = machine.start (program_with code labels text)
 
   first_agrees : Agrees (with_stack 0 (start text)) s0
   unfolding s0 machine.start
   first_agrees = record {
     bytes = λ at v lives e.
         let b = between DATA_FROM (private_end (globals text)) (start text).live at ready.placed lives in
-        memory_at text (at - DATA_FROM) v (omega (arith, b)) e;
+        memory_at text (at - DATA_FROM) v
+        (omega (arith, b, le_rounded PAGE_BYTES (private_end (globals text)) (omega arith))) e;
     small = memory_small text;
     stack = refl;
     cursor = refl;
@@ -96,10 +100,10 @@ module _ (text : List Item) (ready : IsReadyText text) (code input : List ℕ) (
   back = length first + 1
 
   boot : HasAt code labels 0 (all_do first ++ rest)
-  boot = has_front code labels 0 (boot_code main_label) (functions_code text (region_labels + definitions_in text) text) has
+  boot = has_front code labels 0 (boot_code main_label) (functions_code text (definitions_in text) text) has
 
   functions_has : (i : ℕ) × (label : ℕ) × HasAt code labels i (functions_code text label text)
-  functions_has = (0 + width_of (boot_code main_label), region_labels + definitions_in text, has_back code labels 0 (boot_code main_label) (functions_code text (region_labels + definitions_in text) text) has)
+  functions_has = (0 + width_of (boot_code main_label), definitions_in text, has_back code labels 0 (boot_code main_label) (functions_code text (definitions_in text) text) has)
 
   tail : HasAt code labels (0 + length first) rest
   tail = has_after code labels 0 first rest boot
@@ -163,14 +167,14 @@ module _ (text : List Item) (ready : IsReadyText text) (code input : List ℕ) (
         r.agrees.output,
       )
 
-  seq_is : (j : ℕ) → seq (program_of code text) input j ≡ run code input j (Running s0)
+  seq_is : (j : ℕ) → seq (program_with code labels text) input j ≡ run code input j (Running s0)
   unfolding s0 seq
   seq_is j = refl
 
   -- what the call of `main` comes to, as what the program does
   finish : (s : State) → Called s → (n : ℕ) (e : Ended (Option ℕ))
       → Follows code input for_function (start text) 0 0 (n + 1) (λ v. back) s (CallLeft true ty.Int) e
-      → ComesTo (program_of code text) input (suc n) e
+      → ComesTo (program_with code labels text) input (suc n) e
   finish s c n (Goes None store left) f = let b = f.by in absurd (never (b.3 refl))
     where
       never : is_void ty.Int ≡ true → ⊥
@@ -214,7 +218,7 @@ module _ (text : List Item) (ready : IsReadyText text) (code input : List ℕ) (
 
   -- the meaning with some steps
   comes_to : (n : ℕ) (o : Option Definition) → definition text main_name ≡ o → IsMain o
-      → ComesTo (program_of code text) input n (run_of text input n)
+      → ComesTo (program_with code labels text) input n (run_of text input n)
   comes_to n None e m = absurd m
   comes_to zero (Some d) e m =
       (0, s0, omega arith, omega arith, seq_is 0 ∙ (stays code input s0).is, first_agrees.output)
@@ -230,7 +234,7 @@ module _ (text : List Item) (ready : IsReadyText text) (code input : List ℕ) (
       (ap length (sym m.1)) (omega (arith, place))
       (g.pc ∙ ap address_of (label_is code labels text ready input short bytes functions_has main_name d p))
       g.link tt g.agrees first_framed in
-      subst (λ q. ComesTo (program_of code text) input (suc n)
+      subst (λ q. ComesTo (program_with code labels text) input (suc n)
       (enter (calls_at text input (suc n)) q [] (start text) n)) (sym e)
       (finish s g n (calls_at text input (suc n) d [] (start text) n)
       (subst (λ b. Follows code input for_function (start text) 0 0 (n + 1) (λ v. back) s
@@ -245,15 +249,15 @@ text_done text ready = λ code input labels short bytes has n.
     comes_to text ready code input labels short bytes has n (definition text main_name) refl ready.main
 
 -- an end of the meaning, without the steps that are left
-meaning_of : (text : List Item) (code input : List ℕ) (n : ℕ) (e : Ended (Option ℕ))
-    → ComesTo (program_of code text) input n e → DoesAs (program_of code text) input n (ended e)
-meaning_of text code input n (Goes v store left) c = (c.0, c.1, omega (arith, c.3), c.4, c.5)
-meaning_of text code input n (StackFull output) c = c
-meaning_of text code input n (More output) c = c
-meaning_of text code input n (Undef output act at) c = tt
+meaning_of : (program : Program) (input : List ℕ) (n : ℕ) (e : Ended (Option ℕ))
+    → ComesTo program input n e → DoesAs program input n (ended e)
+meaning_of program input n (Goes v store left) c = (c.0, c.1, omega (arith, c.3), c.4, c.5)
+meaning_of program input n (StackFull output) c = c
+meaning_of program input n (More output) c = c
+meaning_of program input n (Undef output act at) c = tt
 
 pub meant_done : (text : List Item) → IsReadyText text → DoesWhatIsMeant text
 unfolding meant
 meant_done text ready = λ code input labels short bytes has n.
-    meaning_of text code input n (run_of text input n)
+    meaning_of (program_with code labels text) input n (run_of text input n)
     (text_done text ready code input labels short bytes has n)

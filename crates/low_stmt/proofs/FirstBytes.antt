@@ -14,7 +14,7 @@ use Rattle.c_tree.specs.Ty.{Ty}
 use Rattle.c_tree.specs.Var.{Var}
 use Rattle.c_tree.specs.Declarators.{declared_shape, element_shape}
 use Rattle.c_layout.specs.Sizes.{size}
-use Rattle.c_layout.specs.Globals.{globals, addresses, private_end}
+use Rattle.c_layout.specs.Globals.{globals, addresses, private_to}
 use Rattle.c_semantics.specs.declared.object.Object.{Object}
 use Rattle.c_semantics.specs.Memory.{holds, digits, with_byte, with_bytes}
 use Rattle.c_semantics.specs.Meaning.{item_bytes, items_bytes, given_bytes, filled, first_bytes, with_first_bytes, global_declarators, start}
@@ -176,16 +176,16 @@ module _ (text : List Item) where
   pub memory_length : length (first_memory text) ≡ MEMORY_BYTES
   memory_length =
       filled_length MEMORY_BYTES (data_of text)
-      (omega (arith, taken_length (private_end (globals text) - DATA_FROM) (start text).bytes, cells_length))
+      (omega (arith, taken_length (private_to (globals text) - DATA_FROM) (start text).bytes, cells_length))
 
   pub memory_small : (i : ℕ) → slice_index (first_memory text) i < 2 ^ 8
   memory_small i =
-      memory_small_of (private_end (globals text) - DATA_FROM) (MEMORY_BYTES - length (data_of text))
+      memory_small_of (private_to (globals text) - DATA_FROM) (MEMORY_BYTES - length (data_of text))
       (start text).bytes i
       (unwritten_hold MEMORY_BYTES (addresses (globals text)) (global_declarators text))
 
-  pub memory_at : (i v : ℕ) → i < private_end (globals text) - DATA_FROM
+  pub memory_at : (i v : ℕ) → i < private_to (globals text) - DATA_FROM
       → slice_get (start text).bytes i ≡ Some (Some v) → slice_index (first_memory text) i ≡ v
   memory_at i v lt e =
-      taken_at (start text).bytes (private_end (globals text) - DATA_FROM) i v
+      taken_at (start text).bytes (private_to (globals text) - DATA_FROM) i v
       (replicate (MEMORY_BYTES - length (data_of text)) 0) lt e

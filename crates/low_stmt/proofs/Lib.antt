@@ -1,6 +1,10 @@
 pub mod StatementParts
 pub mod Conditions
 pub mod Loops
+pub mod Placings
+pub mod PlacingsOfExpressions
+pub mod PlacingsOfStatements
+pub mod PlacingsOfTexts
 pub mod BlankBytes
 pub mod LocalsOfBlocks
 pub mod LocalWrites

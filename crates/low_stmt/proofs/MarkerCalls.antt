@@ -245,21 +245,22 @@ module _ (code input : List ℕ) (labels : ℕ → ℕ) (short : length code ≤
       (there.1 ∙ ap address_of at_end) (agrees_moved store s1 (address_of (k + 1)) 1 r.agrees) tt)
 
   -- after the step of the statement
-  pub marker_done : (names : Names) (to : Targets) (i : ℕ) (mark : Marker)
-      → IsReadyMarker defined room top names mark → HasAt code labels i (marker_code names mark)
+  pub marker_done : (names : Names) (to : Targets) (label i : ℕ) (mark : Marker)
+      → IsReadyMarker defined room top names mark
+      → HasAt code labels i (marker_code names label mark)
       → IsDone (with_credit 255) code input frame room top m i
-      (flow_end labels to (i + width_of (marker_code names mark))) (FlowLeft result) (pure Normal)
-  marker_done names to i (marker.Begin k) ready has = λ store n s le pc ag f.
+      (flow_end labels to (i + width_of (marker_code names label mark))) (FlowLeft result) (pure Normal)
+  marker_done names to label i (marker.Begin k) ready has = λ store n s le pc ag f.
       called (constant 10 k) 3 i to [] store n s (omega (arith, number_length 10 k)) (λ s1. refl) has pc
       ag f (omega arith)
       (number s.memory frame room top fr defined f.aligned (omega (arith, f.above)) i 10 k
       (register s.registers) (ag.stack ∙ f.is) refl (omega arith) (omega arith) ready) refl
-  marker_done names to i (marker.End k) ready has = λ store n s le pc ag f.
-      called (constant 10 k) 4 i to (op.Mark k ∷ []) store n s (omega (arith, number_length 10 k))
+  marker_done names to label i (marker.End k) ready has = λ store n s le pc ag f.
+      called (constant 10 k) 4 i to (op.Mark label ∷ []) store n s (omega (arith, number_length 10 k))
       (λ s1. refl) has pc ag f (omega arith)
       (number s.memory frame room top fr defined f.aligned (omega (arith, f.above)) i 10 k
       (register s.registers) (ag.stack ∙ f.is) refl (omega arith) (omega arith) ready) refl
-  marker_done names to i (marker.Post channel name at count) ready has = λ store n s le pc ag f.
+  marker_done names to label i (marker.Post channel name at count) ready has = λ store n s le pc ag f.
       let a = take_variable names 11 name at in
       let b = take_count names count in
       called (a ++ (b ++ constant 10 channel)) 5 i to [] store n s
@@ -267,7 +268,7 @@ module _ (code input : List ℕ) (labels : ℕ → ℕ) (short : length code ≤
       (λ s1. refl) has pc ag f (omega arith)
       (post_taken s.memory frame room top fr defined f.aligned (omega (arith, f.above)) names i channel name
       at count (register s.registers) (ag.stack ∙ f.is) refl ready.0 ready.1 ready.2) refl
-  marker_done names to i (marker.Wait channel) ready has = λ store n s le pc ag f.
+  marker_done names to label i (marker.Wait channel) ready has = λ store n s le pc ag f.
       called (constant 10 channel) 6 i to [] store n s (omega (arith, number_length 10 channel))
       (λ s1. refl) has pc ag f (omega arith)
       (number s.memory frame room top fr defined f.aligned (omega (arith, f.above)) i 10 channel

@@ -169,9 +169,9 @@ module _ (functions : List ℕ → ℕ) (defined : List ℕ → Option Definitio
         (exec_all input calls result names places body) ready.0
         (stmts_done names places to label i body ready.1 has)
     stmt_done names places to label i (stmt.Marker marker at) ready has =
-        counted_done to i (marker_code names marker) (pure Normal) has
-        (marker_done code input labels h.short frame room top m fr defined result names to (i + 1) marker
-        ready has.1)
+        counted_done to i (marker_code names label marker) (pure Normal) has
+        (marker_done code input labels h.short frame room top m fr defined result names to label (i + 1)
+        marker ready has.1)
     stmt_done names places to label i (stmt.If c s other at) ready has =
         let then_label = label + 2 + labels_in c in
         let else_label = then_label + labels_in_stmt s in

@@ -70,12 +70,13 @@ test_words t label c =
       slot_length 5 0,
     )
 
-marker_words : (names : Names) (m : Marker) → width_of (marker_code names m) ≤ 20
-marker_words names (marker.Begin k) =
+marker_words : (names : Names) (label : ℕ) (m : Marker)
+    → width_of (marker_code names label m) ≤ 20
+marker_words names label (marker.Begin k) =
     omega (arith, width-append (all_do (constant 10 k)) (machine_call 3), all_width (constant 10 k), number_length 10 k)
-marker_words names (marker.End k) =
-    omega (arith, width-append (all_do (constant 10 k)) (machine_call 4 ++ op.Mark k ∷ []), all_width (constant 10 k), number_length 10 k)
-marker_words names (marker.Post channel name at count) =
+marker_words names label (marker.End k) =
+    omega (arith, width-append (all_do (constant 10 k)) (machine_call 4 ++ op.Mark label ∷ []), all_width (constant 10 k), number_length 10 k)
+marker_words names label (marker.Post channel name at count) =
     let a = take_variable names 11 name at in
     let b = take_count names count in
     let c = constant 10 channel in
@@ -89,7 +90,7 @@ marker_words names (marker.Post channel name at count) =
       count_length names count,
       number_length 10 channel,
     )
-marker_words names (marker.Wait channel) =
+marker_words names label (marker.Wait channel) =
     omega (arith, width-append (all_do (constant 10 channel)) (machine_call 6), all_width (constant 10 channel), number_length 10 channel)
 
 loop_words : (label : ℕ) (c s step : List Operation)
@@ -201,7 +202,7 @@ module _ (functions : List ℕ → ℕ) (defined : List ℕ → Option Definitio
       stmt_words names places to label (stmt.Block body at) ready =
           omega (arith, stmts_words names places to label body ready.1)
       stmt_words names places to label (stmt.Marker marker at) ready =
-          omega (arith, marker_words names marker)
+          omega (arith, marker_words names label marker)
       stmt_words names places to label (stmt.If c s other at) ready =
           let then_label = label + 2 + labels_in c in
           let else_label = then_label + labels_in_stmt s in

@@ -24,7 +24,7 @@ use Rattle.low_stmt.specs.CodeBound.{count_body, count_stmts, count_items, count
 use Rattle.low_stmt.specs.StmtCode.{write_code, stmts_code}
 use Rattle.low_stmt.specs.FunCode.{last_word, enter_code, leave_code, pass_code, end_code, body_of, targets_from, fun_code}
 use Rattle.low_stmt.specs.FunReadiness.{IsReadyFun}
-use Rattle.low_stmt.specs.TextCode.{label_of, names_in, labels_with, region_labels, definitions_in, boot_code, definition_code, functions_code, text_code}
+use Rattle.low_stmt.specs.TextCode.{label_of, names_in, labels_with, definitions_in, boot_code, definition_code, functions_code, text_code}
 use Rattle.low_stmt.specs.TextReadiness.{AreReadyFuns, IsReadyText}
 use Rattle.low_stmt.proofs.FunctionsFollow.{end_length}
 use Rattle.low_stmt.proofs.WordsOfStatements.{write_words, stmts_words}
@@ -140,7 +140,7 @@ pub text_words : (text : List Item) → IsReadyText text
     → width_of (text_code text) ≤ 32 * count_text text
 text_words text ready =
     let main = label_of text main_name in
-    let label = region_labels + definitions_in text in
+    let label = definitions_in text in
     omega (
       arith,
       width-append (boot_code main) (functions_code text label text),

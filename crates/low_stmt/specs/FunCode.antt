@@ -16,7 +16,8 @@ use Rattle.c_semantics.specs.Meaning.{with_parameters, main_name}
 use Rattle.low_expr.specs.Registers.{x0, ra, sp, t0, t2, a0}
 use Rattle.low_expr.specs.CodePieces.{all_do, constant, take_slot, frame_address}
 use Rattle.low_expr.specs.ExprCode.{machine_call}
-use Rattle.low_stmt.specs.StmtCode.{Targets, write_code, labels_in_stmts, stmts_code}
+use Rattle.low_stmt.specs.declared.targets.Targets.{Targets}
+use Rattle.low_stmt.specs.StmtCode.{write_code, labels_in_stmts, stmts_code}
 
 -- the return address is in the last word of the frame
 abbrev pub last_word : ℕ → ℕ

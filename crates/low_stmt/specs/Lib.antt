@@ -7,6 +7,10 @@ pub mod StmtSimulation
 pub mod FunReadiness
 pub mod FunSimulation
 pub mod TextReadiness
+pub mod TextProgram
 pub mod TextSimulation
 pub mod CodeBound
 pub mod FittingTexts
+pub mod RegionEnds
+pub mod DefinedOnce
+pub mod private

@@ -1,5 +1,5 @@
--- The code of a marker: a call of the machine, with what it takes in a0, a1 and a2. The label of a
--- region's number is after its end.
+-- The code of a marker: a call of the machine, with what it takes in a0, a1 and a2. After the end of a
+-- region there is a label.
 use Rattle.std.specs.Prelude.{ℕ, List, [], ◌∷◌, ◌++◌, pos}
 use Rattle.rv_code.specs.declared.instr.Instr.{Instr}
 use Rattle.rv_code.specs.declared.instr.Instr.TheVariants as instr
@@ -23,6 +23,11 @@ a1 = 11
 abbrev pub a2 : ℕ
 a2 = 12
 
+-- how many labels a marker takes
+abbrev pub labels_in_marker : Marker → ℕ
+labels_in_marker (marker.End k) = 1
+labels_in_marker m = 0
+
 module _ (names : Names) where
   -- what a variable holds into a register, or an array's address
   abbrev pub take_variable : (rd : ℕ) → List ℕ → Place → List Instr
@@ -34,10 +39,10 @@ module _ (names : Names) where
   take_count (amount.Number n) = constant a2 n
   take_count (amount.Name name at) = take_variable a2 name at
 
-  abbrev pub marker_code : Marker → List Operation
-  marker_code (marker.Begin k) = all_do (constant a0 k) ++ machine_call 3
-  marker_code (marker.End k) = all_do (constant a0 k) ++ (machine_call 4 ++ op.Mark k ∷ [])
-  marker_code (marker.Post channel name at count) =
+  abbrev pub marker_code : (label : ℕ) → Marker → List Operation
+  marker_code label (marker.Begin k) = all_do (constant a0 k) ++ machine_call 3
+  marker_code label (marker.End k) = all_do (constant a0 k) ++ (machine_call 4 ++ op.Mark label ∷ [])
+  marker_code label (marker.Post channel name at count) =
       all_do (take_variable a1 name at ++ (take_count count ++ constant a0 channel))
       ++ machine_call 5
-  marker_code (marker.Wait channel) = all_do (constant a0 channel) ++ machine_call 6
+  marker_code label (marker.Wait channel) = all_do (constant a0 channel) ++ machine_call 6

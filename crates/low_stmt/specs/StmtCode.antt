@@ -25,13 +25,8 @@ use Rattle.low_expr.specs.Registers.{x0, t0, t2, a0}
 use Rattle.low_expr.specs.CodePieces.{all_do, take_slot, frame_address, nothing, narrow_by, write_by}
 use Rattle.low_expr.specs.Operators.{cast_code}
 use Rattle.low_expr.specs.ExprCode.{labels_in, expr_code}
-use Rattle.low_stmt.specs.MarkerCode.{marker_code}
-
--- the labels that a statement goes to where it doesn't end normally
-pub record Targets : Type 0 where
-  pub at_break : ℕ
-  pub at_continue : ℕ
-  pub at_return : ℕ
+pub use Rattle.low_stmt.specs.declared.targets.Targets.{Targets}
+use Rattle.low_stmt.specs.MarkerCode.{labels_in_marker, marker_code}
 
 -- a step that is counted
 abbrev pub counted : List Operation
@@ -108,7 +103,7 @@ abbrev mutual
   labels_in_stmt (stmt.Expr e at) = labels_in e
   labels_in_stmt (stmt.Vars ds at) = labels_in_declarators ds
   labels_in_stmt (stmt.Block body at) = labels_in_stmts body
-  labels_in_stmt (stmt.Marker marker at) = 0
+  labels_in_stmt (stmt.Marker marker at) = labels_in_marker marker
   labels_in_stmt (stmt.If c s other at) =
       2 + labels_in c + labels_in_stmt s + labels_in_else other
   labels_in_stmt (stmt.While c s at) = 3 + labels_in c + labels_in_stmt s
@@ -176,7 +171,7 @@ module _ (functions : List ℕ → ℕ) where
       stmt_code names places to label (stmt.Block body at) =
           stmts_code names places to label body
       stmt_code names places to label (stmt.Marker marker at) =
-          counted ++ marker_code names marker
+          counted ++ marker_code names label marker
       stmt_code names places to label (stmt.If c s other at) =
           let then_label = label + 2 + labels_in c in
           counted ++ if_code label (test_code test.Eq label (value_code names (label + 2) c))

@@ -1,14 +1,13 @@
--- The program of a text: its code, the bytes of its globals, and where its regions end.
+-- The program of a text: its code, and the bytes of its globals.
 use Rattle.std.specs.Prelude.{ℕ, ◌+◌, ◌-◌, Bool, true, bytes_eq, List, [], ◌∷◌, ◌++◌, take, map, Option, Some, None}
 use Rattle.bop_bits.specs.declared.map.TheConstants.{DATA_FROM, STACK_TO}
-use Rattle.rv_code.specs.Step.{address_of}
 use Rattle.low_labels.specs.Operation.{Operation}
 use Rattle.low_labels.specs.Operation as op
 use Rattle.c_tree.specs.Stmt.{Stmts}
 use Rattle.c_tree.specs.Fun.{Fun}
 use Rattle.c_tree.specs.Item.{Item}
 use Rattle.c_tree.specs.Item as item
-use Rattle.c_layout.specs.Globals.{globals, addresses, private_end}
+use Rattle.c_layout.specs.Globals.{globals, addresses, private_to}
 use Rattle.c_semantics.specs.Names.{Names, no_names}
 use Rattle.c_semantics.specs.Meaning.{main_name, names_of, start}
 use Rattle.low_expr.specs.Registers.{ra, sp}
@@ -16,10 +15,7 @@ use Rattle.low_expr.specs.CodePieces.{all_do, constant}
 use Rattle.low_expr.specs.ExprCode.{machine_call}
 use Rattle.low_stmt.specs.FunCode.{fun_code, labels_in_body}
 
--- Labels: those of the regions, by their numbers; then those of the functions, in the order of
--- their definitions; then those within functions.
-abbrev pub region_labels : ℕ
-region_labels = 256
+-- Labels: those of the functions, in the order of their definitions; then those within functions.
 
 -- a function counts where it has a body
 abbrev pub counted_with : Option Stmts → ℕ → ℕ
@@ -43,7 +39,7 @@ before_in (item.Fun f ∷ rest) name =
     before_by (bytes_eq f.name name) f.body (before_in rest name)
 
 abbrev pub label_of : List Item → List ℕ → ℕ
-label_of text name = region_labels + before_in text name
+label_of text name = before_in text name
 
 -- The program begins by a call of `main`, whose value it exits with.
 abbrev pub boot_code : (main : ℕ) → List Operation
@@ -52,6 +48,15 @@ boot_code main = all_do (constant sp STACK_TO) ++ (op.Jump ra main ∷ machine_c
 abbrev pub labels_with : Option Stmts → ℕ → ℕ
 labels_with None label = label
 labels_with (Some body) label = label + labels_in_body body
+
+-- how many labels functions take within them, and how many a text takes
+abbrev pub labels_in_functions : List Item → ℕ
+labels_in_functions [] = 0
+labels_in_functions (item.Vars keep ds ∷ rest) = labels_in_functions rest
+labels_in_functions (item.Fun f ∷ rest) = labels_with f.body (labels_in_functions rest)
+
+abbrev pub labels_in_text : List Item → ℕ
+labels_in_text text = definitions_in text + labels_in_functions text
 
 -- the names of a text
 abbrev pub names_in : List Item → Names
@@ -71,18 +76,13 @@ module _ (text : List Item) where
 
   abbrev pub text_code : List Operation
   text_code =
-      boot_code (label_of text main_name)
-      ++ functions_code (region_labels + definitions_in text) text
+      boot_code (label_of text main_name) ++ functions_code (definitions_in text) text
 
 -- a byte that isn't written is 0
 abbrev pub byte_or_zero : Option ℕ → ℕ
 byte_or_zero None = 0
 byte_or_zero (Some b) = b
 
--- the bytes of the globals, from the first address of the data on
+-- the bytes of the globals, from the first address of the data to the end of their last page
 abbrev pub data_of : List Item → List ℕ
-data_of text = take (private_end (globals text) - DATA_FROM) (map byte_or_zero (start text).bytes)
-
--- where the region of a number ends, by the places of the labels
-abbrev pub region_end : (labels : ℕ → ℕ) → ℕ → ℕ
-region_end labels k = address_of (labels k)
+data_of text = take (private_to (globals text) - DATA_FROM) (map byte_or_zero (start text).bytes)

@@ -4,7 +4,6 @@ use Rattle.bop_bits.specs.declared.map.TheConstants.{CODE_WORDS}
 use Rattle.rv_code.specs.declared.program.Program.{Program}
 use Rattle.rv_code.specs.declared.stop.Stop.TheVariants as stop
 use Rattle.rv_code.specs.State.{State, Running, Stopped}
-use Rattle.rv_code.specs.Step.{address_of}
 use Rattle.rv_code.specs.SequentialRun.{seq}
 use Rattle.c_tree.specs.Arithmetic.{signed}
 use Rattle.c_tree.specs.Declarators.{count_of}
@@ -12,11 +11,8 @@ use Rattle.c_tree.specs.Item.{Item}
 use Rattle.c_semantics.specs.Run.{Ended, Goes, StackFull, More, Undef}
 use Rattle.c_semantics.specs.Meaning.{Meaning, Done, StackFull', More', Undefined', meant, run_of}
 use Rattle.low_labels.specs.Placed.{HasAt}
-use Rattle.low_stmt.specs.TextCode.{text_code, data_of}
-
--- the program with words of code
-abbrev pub program_of : (code : List ℕ) → List Item → Program
-program_of code text = record { code = code; bytes = data_of text; entry = address_of 0 }
+use Rattle.low_stmt.specs.TextCode.{text_code}
+use Rattle.low_stmt.specs.TextProgram.{program_with}
 
 -- Where the meaning with n steps comes to an end, the machine from its start comes to the same, by
 -- 1 to 256 instructions for each of the steps that were counted; of what comes after an undefined
@@ -40,7 +36,7 @@ abbrev pub IsSimulatedText : List Item → Type 0
 IsSimulatedText text =
     (code input : List ℕ) (labels : ℕ → ℕ) → length code ≤ CODE_WORDS → All (λ b. b < 2 ^ 8) input
     → HasAt code labels 0 (text_code text) → (n : ℕ)
-    → ComesTo (program_of code text) input n (run_of text input n)
+    → ComesTo (program_with code labels text) input n (run_of text input n)
 
 -- The same by what the text means within n steps: the machine exits with its value, or stops since
 -- the stack has no room, in at most 256 n steps; or it still runs after n to 256 n steps. What it
@@ -61,4 +57,4 @@ abbrev pub DoesWhatIsMeant : List Item → Type 0
 DoesWhatIsMeant text =
     (code input : List ℕ) (labels : ℕ → ℕ) → length code ≤ CODE_WORDS → All (λ b. b < 2 ^ 8) input
     → HasAt code labels 0 (text_code text) → (n : ℕ)
-    → DoesAs (program_of code text) input n (meant text input n)
+    → DoesAs (program_with code labels text) input n (meant text input n)

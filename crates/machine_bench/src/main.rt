@@ -1,7 +1,7 @@
 //! Runs a loop on the machine for a number of steps, to time it.
 #![tactic(auto)]
 
-use bop_bits::CODE_FROM;
+use bop_bits::{CODE_FROM, Classes};
 use rv_code::{Bytes, Program, Words};
 use rv_run::{Piece, advance};
 use rv_step::{BUDGET_LIMIT, Job, State};
@@ -77,7 +77,13 @@ fn run(alloc: Global, code: &[u32; 11], steps: u64) -> Option<u64> {
     let program = Program {
         code: Words::of(Vec::from_slice(alloc, code).ok()?),
         bytes: Bytes::of(Vec::new(alloc)),
+        classes: Classes {
+            checked_from: 0,
+            private_from: 0,
+            private_to: 0,
+        },
         entry: CODE_FROM,
+        ends: [0; 256],
     };
     let job = Job::of(program, Bytes::of(Vec::new(alloc)), BUDGET_LIMIT, 1);
     let mut state = State::start(alloc, &job).ok()?;

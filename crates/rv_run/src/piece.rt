@@ -33,7 +33,8 @@ impl Piece {
     }
 
     pub fn bytes(&self) -> &[u8]
-        ensures { result.now ≡ self.now }
+        ensures bytes { result.now ≡ self.now }
+        ensures most { length self.now ≤ PIECE_BYTES }
     {
         &self.array[..self.len]
     }

@@ -71,7 +71,7 @@ fn fill(bytes: &mut Vec<u8>, count: u64) -> Result<(), OutOfMemory>
 }
 
 /// The bytes that a global holds first.
-fn first_bytes(alloc: Global, v: &Var) -> Result<Vec<u8>, OutOfMemory>
+pub fn first_bytes(alloc: Global, v: &Var) -> Result<Vec<u8>, OutOfMemory>
     ensures { IfOk result (λ bytes. bytes.items ≡ first_bytes (var_of v.now)) }
 {
     let mut bytes = Vec::new(alloc);

@@ -28,14 +28,8 @@ use Rattle.c_semantics.specs.Run.{Run}
 use Rattle.c_semantics.specs.Exec.{initialised, declare, begin, test, step, exec, exec_else, exec_all}
 use Rattle.c_semantics.specs.Meaning.{names, whole_run}
 use Rattle.c_semantics.specs.Names.{Definition, Names, held}
-use Rattle.c_resolve.specs.private.Resolved.{blocks_in, names_in, scope}
-
--- the blocks are the same, and those round the innermost one are
-abbrev pub IsSame : Declared → Declared → Type 0
-IsSame before after = blocks_in after ≡ blocks_in before
-
-abbrev pub IsKept : Declared → Declared → Type 0
-IsKept before after = (blocks_in after).outer ≡ (blocks_in before).outer
+use Rattle.c_resolve.specs.private.Resolved.{scope}
+use Rattle.c_resolve.specs.DeclaredNames.{names_in}
 
 -- names that are made of those before, whatever functions they stand for
 abbrev pub AreNames : Declared → Declared → (Names → Names) → Type 0

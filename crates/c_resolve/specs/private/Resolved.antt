@@ -1,37 +1,19 @@
 -- What resolved names and expressions stand for.
-use Rattle.std.specs.Prelude.{option_map, ◌≡◌, ℕ, List, Option, map}
+use Rattle.std.specs.Prelude.{◌≡◌, ℕ, List, map}
 use Rattle.c_tree.specs.declared.place.Place.{Place}
-use Rattle.c_tree.specs.Blocks.{Blocks, look}
-use Rattle.c_scope.specs.Scoped.{blocks_of}
-use Rattle.c_resolve.specs.declared.named.Named.{Named as Coded}
 use Rattle.c_tree.specs.Expr.{Expr, Exprs}
-use Rattle.c_tree.specs.Typing.{type_at}
-use Rattle.c_rules.specs.declared.seen.Seen.{Seen}
-use Rattle.c_rules.specs.Seen.{seen_some}
 use Rattle.c_semantics.specs.declared.kind.Held.{Held}
 use Rattle.c_resolve.specs.declared.names.Names.{Names as Declared}
 use Rattle.c_resolve.specs.declared.node.Node.{Node}
 use Rattle.c_semantics.specs.Run.{Run, ◌>>=◌}
 use Rattle.c_semantics.specs.Memory.{value_at}
-use Rattle.c_semantics.specs.Names.{Definition, Names, types}
+use Rattle.c_semantics.specs.Names.{Names}
 use Rattle.c_resolve.specs.Context.{Context}
-use Rattle.c_resolve.specs.DeclaredNames.{named}
+use Rattle.c_resolve.specs.DeclaredNames.{names_in}
 use Rattle.c_semantics.specs.Eval.{arguments, eval, address, unused, place_of}
 use Rattle.c_resolve.specs.Nodes.{Runs, runs, all_values}
 
--- the blocks of the names that the code has declared
-abbrev pub blocks_in : Declared → Blocks Coded
-blocks_in declared = blocks_of declared.scope
-
--- the names of blocks
-unfoldable pub names_at : List Definition → Blocks Coded → Names
-names_at definitions blocks = λ name. option_map (named definitions) (look blocks name)
-
--- the names that the code has declared
-abbrev pub names_in : List Definition → Declared → Names
-names_in definitions declared = names_at definitions (blocks_in declared)
-
--- and in a context
+-- the names that the code has declared, in a context
 abbrev pub scope : Context → Declared → Names
 scope context declared = names_in context.definitions declared
 
@@ -47,11 +29,6 @@ runs_of context names e = record {
   unused = unused context.input context.calls names e;
   place = place_of e;
 }
-
--- a type is the expression's, whatever functions the names stand for
-abbrev pub IsTypeOf : Declared → Option Seen → Expr → Type 0
-IsTypeOf declared ty e = (definitions : List Definition)
-    → seen_some ty ≡ type_at (types (names_in definitions declared)) e
 
 -- a node does what the expression does
 abbrev pub IsNodeOf : Declared → Node → Expr → Type 0

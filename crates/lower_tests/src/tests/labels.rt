@@ -2,7 +2,7 @@
 
 ghost use Rattle.std.specs.Prelude.{◌≡◌, length, OnOk};
 
-use bop_bits::{CODE_FROM, CODE_WORDS};
+use bop_bits::{CODE_FROM, CODE_WORDS, Classes};
 use low_labels::{Asm, AsmFault, Test};
 use rv_code::{Bytes, Instr, Program, Words};
 use rv_run::{Paused, Piece, advance};
@@ -32,7 +32,13 @@ fn stop_of(alloc: Global, code: Vec<u32>) -> Option<(u32, u64)> {
     let program = Program {
         code: Words::of(code),
         bytes: Bytes::of(Vec::new(alloc)),
+        classes: Classes {
+            checked_from: 0,
+            private_from: 0,
+            private_to: 0,
+        },
         entry: CODE_FROM,
+        ends: [0; 256],
     };
     let job = Job::of(program, Bytes::of(Vec::new(alloc)), 1_000_000, 1);
     let mut state = State::start(alloc, &job).ok()?;

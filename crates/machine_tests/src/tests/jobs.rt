@@ -2,7 +2,7 @@
 
 ghost use Rattle.std.specs.Prelude.{◌≤◌, length};
 
-use bop_bits::CODE_FROM;
+use bop_bits::{CODE_FROM, Classes};
 use rv_code::{Bytes, Program, Words};
 use rv_step::{Cpu, Job, State, Stepped, step_plain};
 use std::alloc::Global;
@@ -17,7 +17,13 @@ pub fn job_of(alloc: Global, code: &[u32], input: &[u8]) -> Option<Job>
     let program = Program {
         code: Words::of(code),
         bytes: Bytes::of(Vec::new(alloc)),
+        classes: Classes {
+            checked_from: 0,
+            private_from: 0,
+            private_to: 0,
+        },
         entry: CODE_FROM,
+        ends: [0; 256],
     };
     Some(Job::of(program, Bytes::of(input), 1_000_000, 1))
 }

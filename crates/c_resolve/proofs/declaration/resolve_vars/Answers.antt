@@ -6,7 +6,8 @@ use Rattle.c_tree.specs.View.{var_of}
 use Rattle.c_semantics.specs.Run.{◌>>◌}
 use Rattle.c_semantics.specs.Exec.{declared_locals, first_place, with_locals_named, initialised, declare}
 use Rattle.c_resolve.specs.private.Acted.{own_at}
-use Rattle.c_resolve.specs.private.Resolved.{scope, names_in}
+use Rattle.c_resolve.specs.private.Resolved.{scope}
+use Rattle.c_resolve.specs.DeclaredNames.{names_in}
 use Rattle.c_resolve.proofs.Passing.{own_first, no_locals, passing_then, passing_push, passing_is}
 use Rattle.c_resolve.proofs.declaration.resolve_vars.Goals as goal
 

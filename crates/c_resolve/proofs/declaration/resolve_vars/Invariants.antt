@@ -1,9 +1,9 @@
 use Rattle.std.proofs.Common.{◌≡◌, List, ◌++◌, map, drop}
 use Rattle.c_tree.specs.View.{var_of}
-use Rattle.c_resolve.specs.private.Acted.{IsKept}
+use Rattle.c_resolve.specs.DeclaredNames.{IsKept, names_in}
 use Rattle.c_semantics.specs.Exec.{declared_locals, with_locals_named, declare}
 use Rattle.c_semantics.specs.Names.{Definition}
-use Rattle.c_resolve.specs.private.Resolved.{scope, names_in}
+use Rattle.c_resolve.specs.private.Resolved.{scope}
 use Rattle.c_resolve.proofs.Passing.{passing_then}
 use Rattle.c_resolve.specs.Context.{Context}
 use Rattle.c_resolve.proofs.declaration.resolve_vars.Given as goal

@@ -15,7 +15,8 @@ use Rattle.c_rules.specs.declared.spine.Along.TheVariants.{Operands}
 use Rattle.c_semantics.specs.Eval.{call}
 use Rattle.c_resolve.specs.Nodes.{Runs, runs, called, all_values}
 use Rattle.c_resolve.specs.declared.node.NodeKind.TheVariants as k
-use Rattle.c_resolve.specs.private.Resolved.{scope, runs_of, IsTypeOf, IsNodeOf}
+use Rattle.c_resolve.specs.private.Resolved.{scope, runs_of, IsNodeOf}
+use Rattle.c_resolve.specs.DeclaredNames.{IsTypeOf}
 use Rattle.c_resolve.proofs.ResolvedLemmas.{all_made}
 use Rattle.c_resolve.proofs.Over.{AreNodesOf, unary_over, step_over, cast_over, cast_typed, binary_over, binary_typed, assign_over, assign_typed, index_over, index_typed, conditional_over, conditional_typed}
 use Rattle.c_resolve.proofs.ActionViews as node

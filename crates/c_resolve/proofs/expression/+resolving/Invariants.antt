@@ -9,7 +9,8 @@ use Rattle.c_rules.specs.Spine.{down}
 use Rattle.c_rules.specs.declared.spine.Along.TheVariants.{Operands}
 use Rattle.c_semantics.specs.Names.{Definition, types}
 use Rattle.c_resolve.specs.Nodes.{runs}
-use Rattle.c_resolve.specs.private.Resolved.{scope, names_in, runs_of}
+use Rattle.c_resolve.specs.private.Resolved.{scope, runs_of}
+use Rattle.c_resolve.specs.DeclaredNames.{names_in}
 use Rattle.c_resolve.specs.Context.{Context}
 use Rattle.c_resolve.proofs.expression.+resolving.Given as goal
 

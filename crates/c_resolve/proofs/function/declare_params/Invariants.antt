@@ -1,9 +1,8 @@
 use Rattle.std.proofs.Common.{◌≡◌, List, map, drop}
 use Rattle.c_tree.specs.View.{param_of}
-use Rattle.c_resolve.specs.private.Acted.{IsKept}
+use Rattle.c_resolve.specs.DeclaredNames.{IsKept, names_in}
 use Rattle.c_semantics.specs.Meaning.{with_parameters}
 use Rattle.c_semantics.specs.Names.{Definition}
-use Rattle.c_resolve.specs.private.Resolved.{names_in}
 use Rattle.c_resolve.proofs.function.declare_params.Given as goal
 
 abbrev pub invariant-loop-p : goal.invariant-loop-p

@@ -8,7 +8,7 @@ use Rattle.c_resolve.specs.Actions.{arguments_run}
 use Rattle.c_resolve.specs.private.Acted.{parameters_at}
 use Rattle.c_semantics.specs.Meaning.{in_frame, parameter_locals, with_parameters}
 use Rattle.c_tree.proofs.BlocksLemmas.{left_is, entered_long, from_entered}
-use Rattle.c_resolve.specs.private.Resolved.{blocks_in}
+use Rattle.c_resolve.specs.DeclaredNames.{blocks_in}
 use Rattle.c_resolve.proofs.BlockNamesLemmas.{names_entered}
 use Rattle.c_resolve.proofs.Passing.{arguments_are}
 use Rattle.c_resolve.proofs.function.resolve_fun.Goals as goal

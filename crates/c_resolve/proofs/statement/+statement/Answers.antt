@@ -22,7 +22,8 @@ use Rattle.c_semantics.specs.Exec.{with_locals, named_behind, next, begin, begin
 use Rattle.c_semantics.specs.Names.{Names}
 use Rattle.c_resolve.specs.private.Acted.{AreNames, IsActionOf}
 use Rattle.c_resolve.specs.Actions.{if_run, while_run, do_run, for_run, action_run}
-use Rattle.c_resolve.specs.private.Resolved.{blocks_in, names_at, scope}
+use Rattle.c_resolve.specs.private.Resolved.{scope}
+use Rattle.c_resolve.specs.DeclaredNames.{blocks_in, names_at}
 use Rattle.c_resolve.proofs.Acting.{in_order_then, in_order_push, in_order_is}
 use Rattle.c_resolve.proofs.BlockNamesLemmas.{names_entered}
 use Rattle.c_tree.proofs.BlocksLemmas.{left_is, entered_long, from_entered}

@@ -1,7 +1,7 @@
 use Rattle.std.proofs.Common.{◌≡◌, ◌++◌, length, map, drop}
 use Rattle.c_tree.specs.View.{ty_of, stmts_of}
 use Rattle.c_layout.specs.Frames.{body_locals}
-use Rattle.c_resolve.specs.private.Acted.{IsKept}
+use Rattle.c_resolve.specs.DeclaredNames.{IsKept}
 use Rattle.c_resolve.specs.Actions.{action_run}
 use Rattle.c_semantics.specs.Exec.{block_locals, exec_all}
 use Rattle.c_resolve.specs.private.Resolved.{scope}

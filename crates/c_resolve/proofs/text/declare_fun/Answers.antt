@@ -3,10 +3,9 @@ use Rattle.std.proofs.lemmas.Result.{on_ok_weaker}
 use Rattle.c_tree.specs.Accepted.{parameter_shapes}
 use Rattle.c_tree.specs.Item.{Item}
 use Rattle.c_tree.specs.View.{fun_of, param_of, ty_of}
-use Rattle.c_resolve.specs.DeclaredNames.{indexed_at, numbered}
+use Rattle.c_resolve.specs.DeclaredNames.{indexed_at, numbered, names_in}
 use Rattle.c_semantics.specs.Meaning.{definition}
 use Rattle.c_semantics.specs.Names.{Routine, with_name}
-use Rattle.c_resolve.specs.private.Resolved.{names_in}
 use Rattle.c_resolve.specs.Routines.{definitions_of, AreNumbersOf}
 use Rattle.c_resolve.proofs.Numbering.{definition_numbered}
 use Rattle.c_resolve.proofs.text.declare_fun.Goals as goal

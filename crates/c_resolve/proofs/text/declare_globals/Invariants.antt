@@ -2,7 +2,7 @@ use Rattle.std.proofs.Common.{◌≡◌, List, map, drop}
 use Rattle.c_tree.specs.View.{var_of}
 use Rattle.c_semantics.specs.Meaning.{with_globals}
 use Rattle.c_semantics.specs.Names.{Definition}
-use Rattle.c_resolve.specs.private.Resolved.{names_in}
+use Rattle.c_resolve.specs.DeclaredNames.{names_in}
 use Rattle.c_resolve.proofs.text.declare_globals.Given as goal
 
 abbrev pub invariant-loop-v : goal.invariant-loop-v

@@ -7,8 +7,7 @@ use Rattle.c_layout.specs.Laid.{Plan}
 use Rattle.c_layout.specs.LayoutAnswers.{plan_of}
 use Rattle.c_resolve.specs.declared.routine.Routine.{Routine}
 use Rattle.c_resolve.specs.Actions.{routine_run}
-use Rattle.c_resolve.specs.DeclaredNames.{numbered}
-use Rattle.c_resolve.specs.private.Resolved.{names_at}
+use Rattle.c_resolve.specs.DeclaredNames.{numbered, names_at}
 use Rattle.c_semantics.specs.Meaning.{main_name}
 use Rattle.c_resolve.specs.Routines.{context_of, definitions_of, definition_frame, definition_run, AreNumbersOf}
 use Rattle.c_resolve.proofs.Numbering.{definitions_cons, definition_numbered, frames_are}

@@ -1,7 +1,7 @@
 use Rattle.std.proofs.Common.{◌≡◌, ◌++◌, ℕ, List, length, map, drop}
 use Rattle.c_tree.specs.View.{item_of, items_of}
 use Rattle.c_layout.specs.LayoutAnswers.{plan_of}
-use Rattle.c_resolve.specs.private.Acted.{IsSame}
+use Rattle.c_resolve.specs.DeclaredNames.{IsSame}
 use Rattle.c_resolve.specs.Actions.{routine_run}
 use Rattle.c_semantics.specs.Eval.{Calls}
 use Rattle.c_resolve.specs.Routines.{context_of, definitions_of, definition_frame, definition_run}

@@ -3,7 +3,7 @@ use Rattle.c_tree.specs.View.{item_of, items_of}
 use Rattle.c_layout.specs.Globals.{globals, addresses}
 use Rattle.c_semantics.specs.Meaning.{names_of}
 use Rattle.c_semantics.specs.Names.{no_names}
-use Rattle.c_resolve.specs.private.Resolved.{names_in}
+use Rattle.c_resolve.specs.DeclaredNames.{names_in}
 use Rattle.c_resolve.specs.Routines.{definitions_of}
 use Rattle.c_resolve.proofs.text.text_names.Given as goal
 

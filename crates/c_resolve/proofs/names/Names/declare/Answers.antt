@@ -1,6 +1,6 @@
 use Rattle.std.proofs.Common.{ap, ◌∙◌}
 use Rattle.c_tree.specs.Blocks.{Blocks}
-use Rattle.c_resolve.specs.private.Resolved.{blocks_in, names_at}
+use Rattle.c_resolve.specs.DeclaredNames.{blocks_in, names_at}
 use Rattle.c_resolve.proofs.BlockNamesLemmas.{names_declared}
 use Rattle.c_resolve.proofs.names.Names.declare.Goals as goal
 

@@ -1,7 +1,6 @@
 use Rattle.std.proofs.Common.{ap, ◌∙◌}
 use Rattle.std.specs.Prelude.{option_map}
-use Rattle.c_resolve.specs.DeclaredNames.{named}
-use Rattle.c_resolve.specs.private.Resolved.{blocks_in}
+use Rattle.c_resolve.specs.DeclaredNames.{named, blocks_in}
 use Rattle.c_resolve.proofs.BlockNamesLemmas.{names_found}
 use Rattle.c_resolve.proofs.names.Names.find.Goals as goal
 

@@ -1,5 +1,5 @@
 use Rattle.std.proofs.Common.{ap, ◌∙◌}
-use Rattle.c_resolve.specs.private.Resolved.{names_at}
+use Rattle.c_resolve.specs.DeclaredNames.{names_at}
 use Rattle.c_resolve.proofs.BlockNamesLemmas.{names_none}
 use Rattle.c_resolve.proofs.names.Names.new.Goals as goal
 
