@@ -1,13 +1,16 @@
-/* The product of two matrices, a region for each row of the result. A row has 1,024 numbers, and so a page
-   of its own: two regions never write one page. The factors are only read.
-   Prints the trace of the product, 2640. */
+/* The product of two matrices, a region for each row of the result.
+
+       ./bop seq examples/matrix.c
+
+   A row has 1,024 numbers, and so a page of its own: two regions never write one page. The factors are
+   only read. Prints the trace of the product, 2640. */
 #include <stdio.h>
 #include "bop.h"
 #define SIZE 16
 
-int left[16][16];
-int right[16][16];
-int product[16][1024];
+int product[SIZE][1024];
+int left[SIZE][SIZE];
+int right[SIZE][SIZE];
 
 void print(int n)
 {

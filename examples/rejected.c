@@ -1,4 +1,4 @@
-/* bop refuses this text on purpose: the region begins in the loop's block and ends behind it, and both
+/* bop refuses this text on purpose: the region begins in the loop's block and ends after it, and both
    markers have to be statements of one block. `bop check` names the earlier one: marker 11 9.
    Put the EndPPR before the closing brace of the loop to mend it. */
 #include "bop.h"

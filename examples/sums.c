@@ -1,4 +1,7 @@
-/* Four sums, each in a region of its own page: no region needs what another writes.
+/* Four sums, each of which a region puts on a page of its own: no region needs what another writes.
+
+       ./bop seq examples/sums.c
+
    Prints 0, 5050, 10100 and 15150, a line each. */
 #include <stdio.h>
 #include "bop.h"

@@ -1,4 +1,7 @@
 /* Counts the words of the input: runs of bytes other than blanks, tabs and line ends.
+
+       echo 'one two three' | ./bop seq examples/words.c
+
    It has no region, so it shows the plain language: input to its end, a loop, output. */
 #include <stdio.h>
 

@@ -1,19 +1,16 @@
--- What is said of a text that was not loaded, or that was refused.
-use Rattle.std.proofs.Common.{◌≡◌, ◌<◌, ◌≤◌, ℕ, List, [], length, Option, Some, None, refl, sym, ap, ◌∙◌, arith}
+-- What is said of a text that was not loaded.
+use Rattle.std.proofs.Common.{◌≡◌, ◌<◌, ◌≤◌, ℕ, List, [], length, Option, Some, None, refl, sym, ap, subst, ◌∙◌, arith}
+use Rattle.std.proofs.KnownBytes.{Appends-nil, Consumes-nil}
 use Rattle.std.proofs.lemmas.List.{length-take, take_all}
 use Rattle.bop_ends.specs.Ends.{IsFront}
-use Rattle.low_link.specs.declared.refused.Refused.{Refused}
-use Rattle.low_link.specs.declared.refused.Refused.TheVariants as r
-use Rattle.c_tree.specs.declared.checked.Checked.{Checked}
-use Rattle.c_tree.specs.View.{items_of}
-use Rattle.c_tree.proofs.Acceptance.{faultless}
-use Rattle.c_layout.specs.declared.layout.Layout.{Layout}
-use Rattle.low_link.specs.Front as front_of
-use Rattle.low_link.specs.Front.{Refuses, IsAccepted}
+use Rattle.bop_top.specs.declared.ending.Figures.{Figures}
 use Rattle.bop_top.specs.declared.outcome.Outcome.{Outcome}
 use Rattle.bop_top.specs.declared.outcome.Outcome.TheVariants as outcome
 use Rattle.c_token.specs.declared.limits.TheConstants.{TEXT_BYTES}
-use Rattle.bop_top.specs.Headline.{SeqSays, SeqTransfers, CheckSays, CheckTransfers, MeanSays, MeanTransfers, IsFine, IsTooLong, IsUnloaded, count_told, refused_outcome}
+use Rattle.bop_top.specs.CommandTransfers.{CanEnd, Moves, Tells, no_figures}
+use Rattle.bop_top.specs.CommandWords.{Request, Seq, Check, Mean}
+use Rattle.bop_top.specs.Headline.{HasDone, Says}
+use Rattle.bop_top.specs.TextSays.{IsTooLong, IsUnloaded}
 
 -- fewer bytes than were asked for are the whole file
 pub whole_file : (file : Option (List ℕ)) (most : ℕ) (text : List ℕ) → IsFront file most text
@@ -31,79 +28,73 @@ longer_file (Some bytes) most text front long =
     (bytes, refl, omega (arith, length-take most bytes, ap length front))
 
 module _ (told : Type 0) (file : Option (List ℕ)) where
-  pub unloaded_seq : (o : Outcome) → IsUnloaded o told file → told → SeqSays o file []
-  unloaded_seq outcome.LoadFault h here = tt
-  unloaded_seq outcome.OutOfMemory h here = tt
-  unloaded_seq outcome.ProgramTooLong h here = h here
-  unloaded_seq _ h here = absurd h
+  unloaded_says : (request : Request) (o : Outcome) → IsUnloaded o told file → told
+      → Says request o no_figures file [] []
+  unloaded_says (Seq name budget) outcome.LoadFault h here = tt
+  unloaded_says (Seq name budget) outcome.OutOfMemory h here = tt
+  unloaded_says (Seq name budget) outcome.ProgramTooLong h here = h here
+  unloaded_says (Seq name budget) _ h here = absurd h
+  unloaded_says (Check name) outcome.LoadFault h here = tt
+  unloaded_says (Check name) outcome.OutOfMemory h here = tt
+  unloaded_says (Check name) outcome.ProgramTooLong h here = h here
+  unloaded_says (Check name) _ h here = absurd h
+  unloaded_says (Mean name steps) outcome.LoadFault h here = tt
+  unloaded_says (Mean name steps) outcome.OutOfMemory h here = tt
+  unloaded_says (Mean name steps) outcome.ProgramTooLong h here = h here
+  unloaded_says (Mean name steps) _ h here = absurd h
 
-  pub unloaded_check : (o : Outcome) → IsUnloaded o told file → told → CheckSays o file
-  unloaded_check outcome.LoadFault h here = tt
-  unloaded_check outcome.OutOfMemory h here = tt
-  unloaded_check outcome.ProgramTooLong h here = h here
-  unloaded_check _ h here = absurd h
+  unloaded_tells : (request : Request) (o : Outcome) → IsUnloaded o told file
+      → Tells request o 0 no_figures
+  unloaded_tells (Seq name budget) outcome.LoadFault h = refl
+  unloaded_tells (Seq name budget) outcome.OutOfMemory h = refl
+  unloaded_tells (Seq name budget) outcome.ProgramTooLong h = refl
+  unloaded_tells (Seq name budget) _ h = absurd h
+  unloaded_tells (Check name) o h = refl
+  unloaded_tells (Mean name steps) outcome.LoadFault h = refl
+  unloaded_tells (Mean name steps) outcome.OutOfMemory h = refl
+  unloaded_tells (Mean name steps) outcome.ProgramTooLong h = refl
+  unloaded_tells (Mean name steps) _ h = absurd h
 
-  pub unloaded_mean : (steps : ℕ) (o : Outcome) → IsUnloaded o told file → told
-      → MeanSays steps o file [] []
-  unloaded_mean steps outcome.LoadFault h here = tt
-  unloaded_mean steps outcome.OutOfMemory h here = tt
-  unloaded_mean steps outcome.ProgramTooLong h here = h here
-  unloaded_mean steps _ h here = absurd h
+  unloaded_ends : (request : Request) (o : Outcome) → IsUnloaded o told file → CanEnd request o
+  unloaded_ends request outcome.LoadFault h = tt
+  unloaded_ends request outcome.OutOfMemory h = tt
+  unloaded_ends request outcome.ProgramTooLong h = tt
+  unloaded_ends request _ h = absurd h
 
-  -- nothing is written then
-  pub seq_stands : (o : Outcome) → IsUnloaded o told file → SeqTransfers o []
-  seq_stands outcome.LoadFault h = refl
-  seq_stands outcome.OutOfMemory h = refl
-  seq_stands outcome.ProgramTooLong h = refl
-  seq_stands _ h = absurd h
+  unloaded_moves : (o : Outcome) (left : Option (List ℕ)) → IsUnloaded o told file
+      → Moves o [] left []
+  unloaded_moves outcome.LoadFault left h = (refl, refl)
+  unloaded_moves outcome.OutOfMemory left h = refl
+  unloaded_moves outcome.ProgramTooLong left h = (refl, refl)
+  unloaded_moves _ left h = absurd h
 
-  pub check_stands : (o : Outcome) → IsUnloaded o told file → CheckTransfers o []
-  check_stands outcome.LoadFault h = refl
-  check_stands outcome.OutOfMemory h = refl
-  check_stands outcome.ProgramTooLong h = refl
-  check_stands _ h = absurd h
+  -- nothing is taken then, nor written, nor told
+  pub unloaded : (request : Request) (o : Outcome) (left content : Option (List ℕ))
+      → IsUnloaded o told file
+      → HasDone request told file o no_figures left left content content
+  unloaded request o left content h = record {
+    taken = [];
+    written = [];
+    takes = Consumes-nil left;
+    writes = Appends-nil content;
+    transfers = record {
+      can = unloaded_ends request o h;
+      moves = unloaded_moves o left h;
+      tells = unloaded_tells request o h;
+    };
+    says = unloaded_says request o h;
+  }
 
-  -- nor anything taken
-  pub mean_stands : (left : Option (List ℕ)) (o : Outcome) → IsUnloaded o told file
-      → MeanTransfers o [] left []
-  mean_stands left outcome.LoadFault h = (refl, refl)
-  mean_stands left outcome.OutOfMemory h = refl
-  mean_stands left outcome.ProgramTooLong h = (refl, refl)
-  mean_stands left _ h = absurd h
-
-  -- and no bytes are told
-  pub unloaded_untold : (o : Outcome) → IsUnloaded o told file → None ≡ count_told o 0
-  unloaded_untold outcome.LoadFault h = refl
-  unloaded_untold outcome.OutOfMemory h = refl
-  unloaded_untold outcome.ProgramTooLong h = refl
-  unloaded_untold _ h = absurd h
-
-pub refused_says : (text : List ℕ) (refused : Refused) → length text ≤ TEXT_BYTES
-    → Refuses text refused → CheckSays (refused_outcome refused) (Some text)
-refused_says text (r.Token fault) fits h = (text, refl, fits, h)
-refused_says text (r.Parse fault) fits h = (text, refl, fits, h)
-refused_says text (r.Check fault) fits h = (text, refl, fits, h)
-refused_says text (r.Layout fault) fits h = (text, refl, fits, h)
-refused_says text r.NotYetBuilt fits h = absurd h
-refused_says text r.OutOfMemory fits h = tt
-
-pub refused_stands : (text : List ℕ) (refused : Refused) → Refuses text refused
-    → CheckTransfers (refused_outcome refused) []
-refused_stands text (r.Token fault) h = (tt, refl)
-refused_stands text (r.Parse fault) h = (tt, refl)
-refused_stands text (r.Check fault) h = (tt, refl)
-refused_stands text (r.Layout fault) h = (tt, refl)
-refused_stands text r.NotYetBuilt h = absurd h
-refused_stands text r.OutOfMemory h = refl
-
-pub accepted_of : (text : List ℕ) (checked : Checked) (laid : Layout)
-    → front_of.IsFront text checked laid → IsAccepted text (items_of checked.tree)
-accepted_of text checked laid h = record { spells = h.spells; faultless = faultless checked.tree checked.accepted }
-
-pub fine_of : (text : List ℕ) (checked : Checked) (laid : Layout)
-    → front_of.IsFront text checked laid → IsFine text
-fine_of text checked laid h = (items_of checked.tree, accepted_of text checked laid h, h.fits)
-
-pub fine_says : (text : List ℕ) (checked : Checked) (laid : Layout) → length text ≤ TEXT_BYTES
-    → front_of.IsFront text checked laid → CheckSays outcome.Fine (Some text)
-fine_says text checked laid fits h = (text, refl, fits, fine_of text checked laid h)
+-- where the shelf tells the file, it is the text
+pub known_file : (request : Request) (told : Type 0) (file : Option (List ℕ)) (text : List ℕ)
+    (o : Outcome) (figures : Figures) (input left old new : Option (List ℕ))
+    → (told → file ≡ Some text) → HasDone request (Unit {0}) (Some text) o figures input left old new
+    → HasDone request told file o figures input left old new
+known_file request told file text o figures input left old new is done = record {
+  taken = done.taken;
+  written = done.written;
+  takes = done.takes;
+  writes = done.writes;
+  transfers = done.transfers;
+  says = λ here. subst (λ f. Says request o figures f done.taken done.written) (sym (is here)) (done.says tt);
+}

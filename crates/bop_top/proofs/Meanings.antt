@@ -1,17 +1,24 @@
 -- What is said of a text that was evaluated.
-use Rattle.std.proofs.Common.{◌≡◌, ◌≤◌, ℕ, List, [], length, Option, Some, None, refl, sym, subst}
+use Rattle.std.proofs.Common.{◌≡◌, ◌≤◌, ℕ, List, length, Option, Some, refl, sym, subst}
+use Rattle.std.specs.Io.KnownBytes.{Appends, Consumes}
 use Rattle.c_semantics.specs.Meaning.{Meaning}
+use Rattle.c_token.specs.declared.limits.TheConstants.{TEXT_BYTES}
+use Rattle.bop_top.specs.declared.ending.Figures.{Figures}
 use Rattle.bop_top.specs.declared.outcome.Outcome.{Outcome}
 use Rattle.bop_top.specs.declared.outcome.Outcome.TheVariants as outcome
-use Rattle.c_token.specs.declared.limits.TheConstants.{TEXT_BYTES}
-use Rattle.bop_top.specs.Headline.{Means, Meant, MeanSays, MeanTransfers, Puts, IsInput, IsFine, IsUnread, IsUnmeant, count_told}
+use Rattle.bop_top.specs.CommandTransfers.{CanEnd, Moves, Tells, bytes_alone}
+use Rattle.bop_top.specs.CommandWords.{Mean}
+use Rattle.bop_top.specs.Headline.{HasDone}
+use Rattle.bop_top.specs.MeanSays.{Means, Meant, MeanSays, Puts}
+use Rattle.bop_top.specs.TextSays.{IsInput}
+use Rattle.bop_top.specs.private.PutMeaning.{HasPut, count_told}
 
 module _ (steps : ℕ) (text taken : List ℕ) (fits : length text ≤ TEXT_BYTES) where
   meant_with : (m : Meaning) (P : Meaning → Type 0) → Means text taken steps (λ x. x ≡ m) → P m
       → Meant steps (Some text) taken P
-  meant_with m P means p = (text, refl, fits, (means.0, means.1, means.2, subst P (sym means.3) p))
+  meant_with m P means p = (text, refl, fits, (means.0, means.1, subst P (sym means.2) p))
 
-  pub put_says : (m : Meaning) (o : Outcome) (written : List ℕ)
+  put_says : (m : Meaning) (o : Outcome) (written : List ℕ)
       → Means text taken steps (λ x. x ≡ m) → Puts o written m → MeanSays steps o (Some text) taken written
   put_says m (outcome.Done exit) written means p =
       meant_with m (Puts (outcome.Done exit) written) means p
@@ -25,45 +32,49 @@ module _ (steps : ℕ) (text taken : List ℕ) (fits : length text ≤ TEXT_BYTE
       meant_with m (Puts outcome.WriteFault written) means p
   put_says m _ written means p = absurd p
 
-  pub unmeant_says : (o : Outcome) → IsUnmeant o text taken → MeanSays steps o (Some text) taken []
-  unmeant_says (outcome.Rejected refused) h = (text, refl, fits, h.0)
-  unmeant_says outcome.InputTooLong h = (text, refl, fits, h.0)
-  unmeant_says outcome.ReadFault h = (text, refl, fits, h)
-  unmeant_says outcome.OutOfMemory h = tt
-  unmeant_says _ h = absurd h
-
 -- where there is a meaning the input was read to its end
-pub put_transfers : (m : Meaning) (o : Outcome) (written taken : List ℕ) (left : Option (List ℕ))
-    → IsInput taken left → Puts o written m → MeanTransfers o taken left written
-put_transfers m (outcome.Done exit) written taken left whole p = whole
-put_transfers m outcome.StackFull written taken left whole p = whole
-put_transfers m (outcome.Undefined act at) written taken left whole p = whole
-put_transfers m outcome.MoreSteps written taken left whole p = whole
-put_transfers m outcome.WriteFault written taken left whole p = whole
-put_transfers m _ written taken left whole p = absurd p
+put_moves : (m : Meaning) (o : Outcome) (written taken : List ℕ) (left : Option (List ℕ))
+    → IsInput taken left → Puts o written m → Moves o taken left written
+put_moves m (outcome.Done exit) written taken left whole p = whole
+put_moves m outcome.StackFull written taken left whole p = whole
+put_moves m (outcome.Undefined act at) written taken left whole p = whole
+put_moves m outcome.MoreSteps written taken left whole p = whole
+put_moves m outcome.WriteFault written taken left whole p = whole
+put_moves m _ written taken left whole p = absurd p
 
--- where there is none nothing is written
-pub unmeant_transfers : (o : Outcome) (text taken : List ℕ) (left : Option (List ℕ))
-    → IsUnmeant o text taken → MeanTransfers o taken left []
-unmeant_transfers (outcome.Rejected refused) text taken left h = (h.1, h.2, refl)
-unmeant_transfers outcome.InputTooLong text taken left h = (h.1, refl)
-unmeant_transfers outcome.ReadFault text taken left h = refl
-unmeant_transfers outcome.OutOfMemory text taken left h = refl
-unmeant_transfers _ text taken left h = absurd h
+put_can : (m : Meaning) (o : Outcome) (written name : List ℕ) (steps : ℕ) → Puts o written m
+    → CanEnd (Mean name steps) o
+put_can m (outcome.Done exit) written name steps p = tt
+put_can m outcome.StackFull written name steps p = tt
+put_can m (outcome.Undefined act at) written name steps p = tt
+put_can m outcome.MoreSteps written name steps p = tt
+put_can m outcome.WriteFault written name steps p = tt
+put_can m _ written name steps p = absurd p
 
--- and no bytes are told
-pub unmeant_untold : (o : Outcome) (text taken : List ℕ) → IsUnmeant o text taken
-    → None ≡ count_told o 0
-unmeant_untold (outcome.Rejected refused) text taken h = refl
-unmeant_untold outcome.InputTooLong text taken h = refl
-unmeant_untold outcome.ReadFault text taken h = refl
-unmeant_untold outcome.OutOfMemory text taken h = refl
-unmeant_untold _ text taken h = absurd h
+put_tells : (m : Meaning) (o : Outcome) (written name : List ℕ) (steps count : ℕ) (told : Figures)
+    → Puts o written m → told ≡ bytes_alone (count_told o count)
+    → Tells (Mean name steps) o count told
+put_tells m (outcome.Done exit) written name steps count told p e = e
+put_tells m outcome.StackFull written name steps count told p e = e
+put_tells m (outcome.Undefined act at) written name steps count told p e = e
+put_tells m outcome.MoreSteps written name steps count told p e = e
+put_tells m outcome.WriteFault written name steps count told p e = e
+put_tells m _ written name steps count told p e = absurd p
 
--- the text was accepted, and then the input was not read to its end
-pub unread_unmeant : (o : Outcome) (text taken : List ℕ) → IsFine text → IsUnread o taken
-    → IsUnmeant o text taken
-unread_unmeant outcome.ReadFault text taken fine h = fine
-unread_unmeant outcome.OutOfMemory text taken fine h = tt
-unread_unmeant outcome.InputTooLong text taken fine h = (fine, h)
-unread_unmeant _ text taken fine h = absurd h
+pub put_done : (name : List ℕ) (steps : ℕ) (known : Type 0) (text taken : List ℕ) (m : Meaning)
+    (o : Outcome) (told : Figures) (input left old new : Option (List ℕ))
+    → length text ≤ TEXT_BYTES → Means text taken steps (λ x. x ≡ m) → Consumes input left taken
+    → IsInput taken left → HasPut m o told old new
+    → HasDone (Mean name steps) known (Some text) o told input left old new
+put_done name steps known text taken m o told input left old new fits means takes whole put = record {
+  taken = taken;
+  written = put.written;
+  takes = takes;
+  writes = put.writes;
+  transfers = record {
+    can = put_can m o put.written name steps put.puts;
+    moves = put_moves m o put.written taken left whole put.puts;
+    tells = put_tells m o put.written name steps (length put.written) told put.puts put.tells;
+  };
+  says = λ here. put_says steps text taken fits m o put.written means put.puts;
+}

@@ -1,18 +1,17 @@
 -- A run in place, piece by piece.
-use Rattle.std.proofs.Common.{◌≡◌, ℕ, ◌+◌, ◌-◌, ◌≤◌, List, [], ◌++◌, Bool, true, false, Option, Some, None, length, refl, sym, ◌∙◌, ap, subst, append-nil, arith}
+use Rattle.std.proofs.Common.{◌≡◌, ℕ, ◌+◌, ◌-◌, ◌≤◌, List, [], ◌++◌, Bool, true, false, Option, Some, None, Ok, Err, length, length-append, refl, sym, ◌∙◌, ap, subst, append-nil, arith}
 use Rattle.std.specs.Prelude.{IsSome, ◌==◌, if◌then◌else◌}
 use Rattle.std.specs.Io.KnownBytes.{Appends}
 use Rattle.std.proofs.KnownBytes.{Appends-nil, Appends-trans}
-use Rattle.byte_lists.specs.Prefix.{IsPrefix}
 use Rattle.byte_lists.specs.Content.{AppendsPrefix}
-use Rattle.byte_lists.proofs.ContentLemmas.{AppendsPrefix-after, AppendsPrefix-longer}
+use Rattle.byte_lists.proofs.Prefixes.{IsPrefix-behind}
+use Rattle.bop_ends.specs.declared.fault.Failed.{Failed}
 use Rattle.rv_code.specs.declared.program.Program.{Program}
 use Rattle.rv_code.specs.declared.stop.Stop.{Stop}
 use Rattle.rv_code.specs.State as machine
 use Rattle.rv_code.specs.State.{Running, start, stop_of, output_of}
 use Rattle.rv_code.specs.SequentialRun.{run, seq}
 use Rattle.rv_code.proofs.SequentialRunLemmas.{seq-zero, seq-add, seq-stays}
-use Rattle.rv_code.proofs.Outputs.{seq-grows}
 use Rattle.rv_step.specs.declared.state.State.{State}
 use Rattle.rv_step.specs.Stepping.{state_of}
 use Rattle.rv_step.specs.InPlace.{stopped_by, machine_of}
@@ -20,12 +19,14 @@ use Rattle.rv_run.specs.declared.piece.TheConstants.{PIECE_BYTES}
 use Rattle.rv_run.specs.declared.run.Paused.{Paused}
 use Rattle.rv_run.specs.declared.run.Paused.TheVariants as paused
 use Rattle.rv_run.specs.Pause.{pause_of, answer_of}
+use Rattle.bop_top.specs.private.RunEnds.{HasPassed}
 
--- the machine has come so far in its run, and what it has put out is in the sink
-pub record Stands (program : Program) (input : List ℕ) (s : State) (old new : Option (List ℕ)) : Type 0 where
+-- the machine has come so far in its run, and what it has put out is in the sink: so many bytes
+pub record Stands (program : Program) (input : List ℕ) (s : State) (old new : Option (List ℕ)) (bytes : ℕ) : Type 0 where
   pub done : List ℕ
   pub state : machine_of s done ≡ seq program input s.count
   pub sink : Appends old new done
+  pub counted : bytes ≡ length done
 
 state_of-stopped_by : (how : Option Stop) (s : machine.State)
     → machine.state_of (stopped_by how s) ≡ s
@@ -57,11 +58,12 @@ count-at_start program s e =
     ∙ start-count program
 
 pub stands-at_start : (program : Program) (input : List ℕ) (s : State) (a : Option (List ℕ))
-    → machine_of s [] ≡ Running (start program) → Stands program input s a a
+    → machine_of s [] ≡ Running (start program) → Stands program input s a a 0
 stands-at_start program input s a e = record {
   done = [];
   state = e ∙ sym (seq-zero program input) ∙ ap (seq program input) (sym (count-at_start program s e));
   sink = Appends-nil a;
+  counted = refl;
 }
 
 -- some steps further, before what they put out is handed on
@@ -81,14 +83,15 @@ advanced program input s t done empty piece none least here ran =
 
 -- the piece has been handed on
 pub stands-moved : (program : Program) (input : List ℕ) (s t : State) (a b c : Option (List ℕ))
-    (empty piece : List ℕ) (stands : Stands program input s a b)
+    (empty piece : List ℕ) (bytes count : ℕ) (stands : Stands program input s a b bytes)
     → empty ≡ [] → s.count ≤ t.count
     → run program.code input (t.count - s.count) (machine_of s (stands.done ++ empty)) ≡ machine_of t (stands.done ++ piece)
-    → Appends b c piece → Stands program input t a c
-stands-moved program input s t a b c empty piece stands none least ran moved = record {
+    → Appends b c piece → count ≡ length piece → Stands program input t a c (bytes + count)
+stands-moved program input s t a b c empty piece bytes count stands none least ran moved now = record {
   done = stands.done ++ piece;
   state = advanced program input s t stands.done empty piece none least stands.state ran;
   sink = Appends-trans a b c stands.done piece stands.sink moved;
+  counted = omega (arith, stands.counted, now, length-append stands.done piece);
 }
 
 -- what was put out so far is the output of the run so far
@@ -97,17 +100,25 @@ pub output-is : (program : Program) (input : List ℕ) (s : State) (output : Lis
 output-is program input s output here =
     ap (λ (m : machine.State). m.output) (sym (machine_state s output)) ∙ ap output_of here
 
--- a sink that failed at the piece holds a prefix of the whole run's output
-pub part-moved : (program : Program) (input : List ℕ) (s t : State) (a b c : Option (List ℕ))
-    (empty piece : List ℕ) (budget : ℕ) (stands : Stands program input s a b)
+-- a sink that failed at the piece holds a prefix of what was put out so far
+pub broken : (program : Program) (input : List ℕ) (s t : State) (a b c : Option (List ℕ))
+    (empty piece : List ℕ) (budget bytes : ℕ) (why : Failed) (stands : Stands program input s a b bytes)
     → empty ≡ [] → s.count ≤ t.count → t.count ≤ budget
     → run program.code input (t.count - s.count) (machine_of s (stands.done ++ empty)) ≡ machine_of t (stands.done ++ piece)
-    → AppendsPrefix b c piece → AppendsPrefix a c (output_of (seq program input budget))
-part-moved program input s t a b c empty piece budget stands none least low ran part =
-    let here = advanced program input s t stands.done empty piece none least stands.state ran in
-    let whole : stands.done ++ piece ≡ output_of (seq program input t.count) = output-is program input t (stands.done ++ piece) here in
-    let grows : IsPrefix (stands.done ++ piece) (output_of (seq program input budget)) = rw whole (seq-grows program input t.count budget low) in
-    AppendsPrefix-longer a c _ _ grows (AppendsPrefix-after a b c stands.done piece stands.sink part)
+    → AppendsPrefix b c piece
+    → HasPassed program input budget t (record { end = Err why; bytes = bytes }) a c
+broken program input s t a b c empty piece budget bytes why stands none least low ran part =
+    let more : bytes ≤ length (stands.done ++ part.0) = omega (arith, stands.counted, length-append stands.done part.0) in
+    record {
+      written = stands.done ++ part.0;
+      output = stands.done ++ piece;
+      writes = Appends-trans a b c stands.done part.0 stands.sink part.2;
+      stands = advanced program input s t stands.done empty piece none least stands.state ran;
+      within = low;
+      over = tt;
+      whole = tt;
+      part = (IsPrefix-behind stands.done part.0 piece part.1, more);
+    }
 
 -- a run that pauses without a full piece is over: it has stopped, or its budget is used up
 stopped-over : (program : Program) (input : List ℕ) (t : State) (output : List ℕ) (budget : ℕ)
@@ -141,20 +152,30 @@ over program input t output piece budget n from paused.Full here is full took wh
 over program input t output piece budget n from paused.Stopped here is full took whole low =
     stopped-over program input t output budget t.stop refl (has-stopped t.stop piece (sym is)) low here
 
-pub state-at_end : (program : Program) (input : List ℕ) (t : State) (output : List ℕ) (budget : ℕ)
-    → seq program input budget ≡ seq program input t.count
-    → machine_of t output ≡ seq program input t.count
-    → machine_of t (output_of (seq program input budget)) ≡ seq program input budget
-state-at_end program input t output budget end here =
-    let said : output_of (seq program input budget) ≡ output = ap output_of end ∙ sym (output-is program input t output here) in
-    ap (machine_of t) said ∙ here ∙ sym end
+-- and then all that was put out is in the sink
+pub finished : (program : Program) (input : List ℕ) (s t : State) (a b c : Option (List ℕ))
+    (empty piece : List ℕ) (budget bytes count : ℕ) (stands : Stands program input s a b bytes)
+    → empty ≡ [] → s.count ≤ t.count → t.count ≤ budget
+    → run program.code input (t.count - s.count) (machine_of s (stands.done ++ empty)) ≡ machine_of t (stands.done ++ piece)
+    → seq program input budget ≡ seq program input t.count → Appends b c piece
+    → count ≡ length piece
+    → HasPassed program input budget t (record { end = Ok tt; bytes = bytes + count }) a c
+finished program input s t a b c empty piece budget bytes count stands none least low ran over moved now =
+    let all : bytes + count ≡ length (stands.done ++ piece) = omega (arith, stands.counted, now, length-append stands.done piece) in
+    record {
+      written = stands.done ++ piece;
+      output = stands.done ++ piece;
+      writes = Appends-trans a b c stands.done piece stands.sink moved;
+      stands = advanced program input s t stands.done empty piece none least stands.state ran;
+      within = low;
+      over = over;
+      whole = (refl, all);
+      part = tt;
+    }
 
-pub sink-at_end : (program : Program) (input : List ℕ) (t : State) (a b c : Option (List ℕ))
-    (done piece : List ℕ) (budget : ℕ)
-    → seq program input budget ≡ seq program input t.count
-    → machine_of t (done ++ piece) ≡ seq program input t.count
-    → Appends a b done → Appends b c piece
-    → Appends a c (output_of (seq program input budget))
-sink-at_end program input t a b c done piece budget end here sink moved =
-    let said : done ++ piece ≡ output_of (seq program input budget) = output-is program input t (done ++ piece) here ∙ ap output_of (sym end) in
-    subst (Appends a c) said (Appends-trans a b c done piece sink moved)
+-- the steps that are told are those of the machine
+pub counted : (program : Program) (input : List ℕ) (s : State) (output : List ℕ)
+    → machine_of s output ≡ seq program input s.count
+    → s.count ≡ (machine.state_of (seq program input s.count)).count
+counted program input s output here =
+    ap (λ (m : machine.State). m.count) (sym (machine_state s output) ∙ ap machine.state_of here)

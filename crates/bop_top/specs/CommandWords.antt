@@ -1,7 +1,5 @@
 -- The words of the command line.
-use Rattle.rv_step.specs.declared.limits.TheConstants.{BUDGET_LIMIT}
 use Rattle.bop_top.specs.declared.words.Command.{Command}
-use Rattle.rv_step.specs.declared.limits.TheConstants.{BUDGET_LIMIT}
 use Rattle.bop_top.specs.declared.words.Command.TheVariants as command
 use Rattle.rv_step.specs.declared.limits.TheConstants.{BUDGET_LIMIT}
 use Rattle.bop_top.specs.declared.words.TheConstants.{BUDGET_DIGITS}
@@ -11,21 +9,22 @@ use Rattle.std.specs.Char.{IsAsciiDigit}
 use Rattle.std.specs.List.{All}
 use Rattle.std.specs.Str.Parse.{digits_value}
 
--- what the words can ask for: a sequential run of the program of this name, to check it, or what it means within so many steps
+-- what the words can ask for: a sequential run of the program of this name within so many steps, to
+-- check it, or what it means within so many
 pub data Request : Type 0 where
-  Seq : (name : List ℕ) → Request
+  Seq : (name : List ℕ) (budget : ℕ) → Request
   Check : (name : List ℕ) → Request
   Mean : (name : List ℕ) (budget : ℕ) → Request
 
 -- what a command of the code asks for
 abbrev pub request_of : Command → Request
-request_of (command.Seq name) = Seq name.now
+request_of (command.Seq name budget) = Seq name.now budget
 request_of (command.Check name) = Check name.now
 request_of (command.Mean name budget) = Mean name.now budget
 
 -- the name of the program
 abbrev pub name_of : Request → List ℕ
-name_of (Seq name) = name
+name_of (Seq name budget) = name
 name_of (Check name) = name
 name_of (Mean name budget) = name
 
@@ -48,23 +47,27 @@ HasBudget [] budget = budget ≡ BUDGET
 HasBudget (option ∷ digits ∷ []) budget = (option ≡ codes "--budget") × IsBudget digits budget
 HasBudget _ budget = ⊥
 
+-- the words are those of a command with a budget
+abbrev pub IsWithin : (command : List ℕ) → List (List ℕ) → (name : List ℕ) → (budget : ℕ) → Type 0
+IsWithin command words name budget =
+    (options : List (List ℕ)) × (words ≡ command ∷ name ∷ options) × IsName name
+    × HasBudget options budget
+
 -- the words ask for this
 abbrev pub IsRequest : List (List ℕ) → Request → Type 0
-IsRequest words (Seq name) = (words ≡ codes "seq" ∷ name ∷ []) × IsName name
+IsRequest words (Seq name budget) = IsWithin (codes "seq") words name budget
 IsRequest words (Check name) = (words ≡ codes "check" ∷ name ∷ []) × IsName name
-IsRequest words (Mean name budget) =
-    (options : List (List ℕ)) × (words ≡ codes "mean" ∷ name ∷ options) × IsName name
-    × HasBudget options budget
+IsRequest words (Mean name budget) = IsWithin (codes "mean") words name budget
 
 -- they ask for nothing
 abbrev pub AsksNothing : List (List ℕ) → Type 0
 AsksNothing words = (request : Request) → IsRequest words request → ⊥
 
--- they ask for the meaning of a program
-abbrev pub AsksMean : List (List ℕ) → Type 0
-AsksMean words = (name : List ℕ) × (budget : ℕ) × IsRequest words (Mean name budget)
+-- a request is to check a program
+abbrev pub IsCheck : Request → Type 0
+IsCheck (Check name) = Unit {0}
+IsCheck _ = ⊥
 
--- a request is for a meaning
-abbrev pub IsMean : Request → Type 0
-IsMean (Mean name budget) = Unit {0}
-IsMean _ = ⊥
+-- the words ask for what reads the input
+abbrev pub AsksInput : List (List ℕ) → Type 0
+AsksInput words = (request : Request) × IsRequest words request × (IsCheck request → ⊥)

@@ -1,5 +1,10 @@
+pub mod CommandFaults
+pub mod CommandTransfers
 pub mod CommandWords
 pub mod Headline
+pub mod MeanSays
 pub mod Report
+pub mod SeqSays
 pub mod Statuses
+pub mod TextSays
 pub mod private

@@ -1,4 +1,5 @@
--- The report: a line about how a command has ended, for a meaning one about the bytes written, and what becomes of them.
+-- The report: a line about how a command has ended, for a run one about its steps, for a run and a
+-- meaning one about the bytes written; and what becomes of them.
 use Rattle.std.specs.Prelude.{◌≡◌, ℕ, List, [], ◌++◌, codes, if◌then◌else◌, Option, Some, None, ◌⊎◌}
 use Rattle.std.specs.Fmt.{decimal, signed_decimal}
 use Rattle.std.specs.Io.KnownBytes.{Appends}
@@ -19,8 +20,11 @@ use Rattle.c_tree.specs.declared.undefined.Undefined.{Undefined as Act}
 use Rattle.c_tree.specs.declared.undefined.Undefined.TheVariants as act
 use Rattle.low_link.specs.declared.refused.Refused.{Refused}
 use Rattle.low_link.specs.declared.refused.Refused.TheVariants as refused
+use Rattle.rv_code.specs.declared.stop.Trap.{Trap}
+use Rattle.rv_code.specs.declared.stop.Trap.TheVariants as trap
+use Rattle.bop_top.specs.declared.ending.Figures.{Figures}
 use Rattle.bop_top.specs.declared.status.Status.{Status}
-use Rattle.bop_top.specs.declared.status.Status.TheVariants.{Done, Rejected, Undefined, ReportFault}
+use Rattle.bop_top.specs.declared.status.Status.TheVariants.{Done, Rejected, Trapped, Undefined, ReportFault}
 use Rattle.bop_top.specs.Statuses.{row_of}
 
 -- a place behind the name of what stands there
@@ -58,13 +62,13 @@ layout_text layout.DataTooLarge = codes "data-too-large"
 layout_text (layout.FrameTooLarge at) = placed (codes "frame-too-large") at
 layout_text layout.OutOfMemory = codes "out-of-memory"
 
--- why a text is rejected (none is for want of memory, or because it can't be compiled yet)
+-- why a text is rejected (none is for want of memory)
 abbrev pub rejection : Refused → List ℕ
 rejection (refused.Token fault) = token_text fault
 rejection (refused.Parse fault) = parse_text fault
 rejection (refused.Check fault) = check_text fault
 rejection (refused.Layout fault) = layout_text fault
-rejection refused.NotYetBuilt = codes "not-yet-built"
+rejection refused.CodeTooLong = codes "code-too-long"
 rejection refused.OutOfMemory = codes "out-of-memory"
 
 abbrev pub act_text : Act → List ℕ
@@ -76,10 +80,22 @@ act_text act.Indeterminate = codes "indeterminate"
 act_text act.Pointer = codes "pointer"
 act_text act.NoValue = codes "no-value"
 
+abbrev pub trap_text : Trap → List ℕ
+trap_text trap.Fetch = codes "fetch"
+trap_text trap.Illegal = codes "illegal"
+trap_text trap.Load = codes "load"
+trap_text trap.Store = codes "store"
+trap_text trap.LoadAlign = codes "load-align"
+trap_text trap.StoreAlign = codes "store-align"
+trap_text trap.JumpAlign = codes "jump-align"
+trap_text trap.Break = codes "break"
+trap_text trap.Call = codes "call"
+
 -- what the text of a status has behind its name
 abbrev pub detail : Status → List ℕ
 detail (Done exit) = codes " " ++ signed_decimal exit
 detail (Rejected refused) = codes " " ++ rejection refused
+detail (Trapped trap pc) = codes " " ++ (trap_text trap ++ (codes " " ++ decimal pc))
 detail (Undefined act at) = codes " " ++ placed (act_text act) at
 detail _ = []
 
@@ -91,36 +107,37 @@ text_of status = (row_of status).name ++ detail status
 abbrev pub line : Status → List ℕ
 line status = codes "status " ++ text_of status ++ codes "\n"
 
--- the line that reports how many bytes were written, where that is told
-abbrev pub bytes_line : Option ℕ → List ℕ
-bytes_line None = []
-bytes_line (Some count) = codes "bytes " ++ decimal count ++ codes "\n"
+-- a line that reports a number, where it is told
+abbrev pub number_line : List ℕ → Option ℕ → List ℕ
+number_line name None = []
+number_line name (Some count) = name ++ (codes " " ++ decimal count ++ codes "\n")
 
 -- the whole report
-abbrev pub report_of : Status → Option ℕ → List ℕ
-report_of status bytes = line status ++ bytes_line bytes
+abbrev pub report_of : Status → Figures → List ℕ
+report_of status told =
+    line status ++ (number_line (codes "steps") told.steps ++ number_line (codes "bytes") told.bytes)
 
 -- how a call ends where its command has ended so and the report has failed
 abbrev pub unreported : Status → Status
 unreported inner = if (row_of inner).answer then ReportFault else inner
 
 -- the whole report was appended
-pub record HasReported (inner final : Status) (bytes : Option ℕ) (old new : Option (List ℕ))
+pub record HasReported (inner final : Status) (told : Figures) (old new : Option (List ℕ))
     (before now : ℕ) : Type 0 where
   pub same : final ≡ inner
-  pub whole : Appends old new (report_of inner bytes)
+  pub whole : Appends old new (report_of inner told)
   pub stands : now ≡ before
 
 -- it failed at some front
-pub record HasFailed (inner final : Status) (bytes : Option ℕ) (old new : Option (List ℕ))
+pub record HasFailed (inner final : Status) (told : Figures) (old new : Option (List ℕ))
     (before now : ℕ) : Type 0 where
   pub same : final ≡ unreported inner
-  pub front : AppendsPrefix old new (report_of inner bytes)
+  pub front : AppendsPrefix old new (report_of inner told)
   pub rose : Rose before now
 
 -- the end of a call whose command has ended with this status, by what the report held and counted
-abbrev pub Reported : Status → Status → Option ℕ → Option (List ℕ) → Option (List ℕ) → ℕ → ℕ
+abbrev pub Reported : Status → Status → Figures → Option (List ℕ) → Option (List ℕ) → ℕ → ℕ
     → Type 0
-Reported inner final bytes old new before now =
-    HasReported inner final bytes old new before now ⊎ HasFailed inner final bytes old new before
+Reported inner final told old new before now =
+    HasReported inner final told old new before now ⊎ HasFailed inner final told old new before
     now

@@ -5,7 +5,7 @@ use Rattle.bop_top.specs.declared.outcome.Outcome.TheVariants as outcome
 use Rattle.bop_top.specs.declared.status.End.{End}
 use Rattle.bop_top.specs.declared.status.End.TheVariants.{Shelf, Input, Output, Report}
 use Rattle.bop_top.specs.declared.status.Status.{Status}
-use Rattle.bop_top.specs.declared.status.Status.TheVariants.{Done, Fine, BadWords, LoadFault, ProgramTooLong, Rejected, ReadFault, InputTooLong, StackFull, Undefined, MoreSteps, WriteFault, ReportFault, OutOfMemory, NotYetBuilt}
+use Rattle.bop_top.specs.declared.status.Status.TheVariants.{Done, Fine, BadWords, LoadFault, ProgramTooLong, Rejected, ReadFault, InputTooLong, Budget, Trapped, StackFull, Undefined, MoreSteps, WriteFault, ReportFault, OutOfMemory}
 
 -- its name in the report, the status of the process, whether what was asked for was answered, and
 -- the end that has failed
@@ -28,13 +28,14 @@ row_of ProgramTooLong = row (codes "program-too-long") 4 false None
 row_of (Rejected refused) = row (codes "rejected") 5 false None
 row_of ReadFault = row (codes "read-fault") 7 false (Some Input)
 row_of InputTooLong = row (codes "input-too-long") 8 false None
+row_of Budget = row (codes "budget") 9 true None
+row_of (Trapped trap pc) = row (codes "trapped") 10 true None
 row_of StackFull = row (codes "stack-full") 11 true None
 row_of (Undefined act at) = row (codes "undefined") 12 true None
 row_of MoreSteps = row (codes "more-steps") 13 true None
 row_of WriteFault = row (codes "write-fault") 14 false (Some Output)
 row_of ReportFault = row (codes "report-fault") 15 false (Some Report)
 row_of OutOfMemory = row (codes "out-of-memory") 18 false None
-row_of NotYetBuilt = row (codes "not-yet-built") 19 false None
 
 -- the status with which a command ends
 abbrev pub status_of : Outcome → Status
@@ -45,9 +46,10 @@ status_of outcome.ProgramTooLong = ProgramTooLong
 status_of (outcome.Rejected refused) = Rejected refused
 status_of outcome.ReadFault = ReadFault
 status_of outcome.InputTooLong = InputTooLong
+status_of outcome.Budget = Budget
+status_of (outcome.Trapped trap pc) = Trapped trap pc
 status_of outcome.StackFull = StackFull
 status_of (outcome.Undefined act at) = Undefined act at
 status_of outcome.MoreSteps = MoreSteps
 status_of outcome.WriteFault = WriteFault
 status_of outcome.OutOfMemory = OutOfMemory
-status_of outcome.NotYetBuilt = NotYetBuilt

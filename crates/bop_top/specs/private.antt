@@ -1,2 +1,5 @@
 -- What contracts of private functions alone cite.
+pub mod Prepared
+pub mod PutMeaning
+pub mod RunEnds
 pub mod Untouched

@@ -1,8 +1,9 @@
 //! The input of a program, read whole.
 
-ghost use Rattle.std.specs.Prelude.{◌≡◌, ℕ, List, IfOk, OnOk, IfErr};
+ghost use Rattle.std.specs.Prelude.{◌≡◌, ◌<◌, ◌^◌, ℕ, List, All, IfOk, OnOk, IfErr};
 ghost use Rattle.std.specs.Io.KnownBytes.{Consumes};
-ghost use Rattle.bop_top.specs.Headline.{Counts, IsInput, IsUnread};
+ghost use Rattle.bop_top.specs.CommandFaults.{Counts};
+ghost use Rattle.bop_top.specs.TextSays.{IsInput, IsUnread};
 
 use crate::outcome::Outcome;
 use bop_ends::Source;
@@ -14,6 +15,7 @@ pub fn read_input<S: Source>(alloc: Global, input: &mut S) -> Result<Vec<u8>, Ou
     ensures whole { IfOk result
         (λ bytes. Consumes (S.left input.old) (S.left input.new) bytes.items
         × IsInput bytes.items (S.left input.new)) }
+    ensures small { IfOk result (λ bytes. All (λ b. b < 2 ^ 8) bytes.items) }
     ensures part { IfErr result
         (λ outcome. (taken : List ℕ) × Consumes (S.left input.old) (S.left input.new) taken
         × IsUnread outcome taken) }
@@ -29,6 +31,7 @@ pub fn read_input<S: Source>(alloc: Global, input: &mut S) -> Result<Vec<u8>, Ou
             return Err(Outcome::ReadFault);
         };
         if count == 0 {
+            bytes_are_small(&bytes);
             return Ok(bytes);
         }
         if bytes.extend_from_slice(&piece[..count]).is_err() {
@@ -37,3 +40,8 @@ pub fn read_input<S: Source>(alloc: Global, input: &mut S) -> Result<Vec<u8>, Ou
     }
     Err(Outcome::InputTooLong)
 }
+
+/// Bytes are below 256. It does nothing: its contract is the law.
+fn bytes_are_small(bytes: &[u8])
+    ensures { All (λ b. b < 2 ^ 8) bytes.now }
+{}

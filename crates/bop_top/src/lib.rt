@@ -8,6 +8,7 @@ mod meaning;
 mod outcome;
 mod report;
 mod run;
+mod sequential;
 mod status;
 mod top;
 mod words;

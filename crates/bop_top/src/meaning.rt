@@ -6,16 +6,22 @@ ghost use Rattle.byte_lists.specs.Content.{AppendsPrefix};
 ghost use Rattle.bop_ends.specs.Ends.{HasCause};
 ghost use Rattle.c_meaning.specs.Answer.{meaning_of};
 ghost use Rattle.c_semantics.specs.Outcome.{output_of};
-ghost use Rattle.bop_top.specs.Headline.{Means, IsInput, IsUnmeant, HasPut, HasMeant, Counts, meaning_outcome};
+ghost use Rattle.bop_top.specs.CommandFaults.{Counts};
+ghost use Rattle.bop_top.specs.CommandTransfers.{bytes_alone};
+ghost use Rattle.bop_top.specs.CommandWords.{Mean};
+ghost use Rattle.bop_top.specs.Headline.{HasDone};
+ghost use Rattle.bop_top.specs.MeanSays.{Means, meaning_outcome};
+ghost use Rattle.bop_top.specs.TextSays.{IsInput, IsUnready};
+ghost use Rattle.bop_top.specs.private.PutMeaning.{HasPut};
 ghost use Rattle.c_token.specs.declared.limits.TheConstants.{TEXT_BYTES};
 
-use crate::ending::Ending;
+use crate::ending::{Ending, Figures};
 use crate::input::read_input;
 use crate::outcome::{Outcome, outcome_of};
 use bop_ends::{Failed, Sink, Source};
 use c_meaning::{Meant, evaluate};
 use c_tree::OutOfMemory;
-use low_link::front;
+use low_link::source;
 use std::alloc::Global;
 
 /// Evaluates a text with the input within so many steps, and hands its output to the sink.
@@ -27,8 +33,9 @@ pub fn mean_text<S: Source, K: Sink>(
     output: &mut K,
 ) -> Ending
     requires { length text.now ≤ TEXT_BYTES }
-    ensures meant { HasMeant steps ⊤ (Some text.now) result.outcome result.bytes
-        (S.left input.old) (S.left input.new) (K.content output.old) (K.content output.new) }
+    ensures done { (name : List ℕ) → HasDone (Mean name steps) ⊤ (Some text.now) result.outcome
+        result.told (S.left input.old) (S.left input.new) (K.content output.old)
+        (K.content output.new) }
     ensures counts { (h : ℕ) → Counts result.outcome
         (record { shelf = h; input = S.faults input.old; output = K.faults output.old })
         (record { shelf = h; input = S.faults input.new; output = K.faults output.new }) }
@@ -53,13 +60,13 @@ fn meaning<S: Source>(
         × IsInput taken (S.left input.new)) }
     ensures refused { IfErr result
         (λ outcome. (taken : List ℕ) × Consumes (S.left input.old) (S.left input.new) taken
-        × IsUnmeant outcome text.now taken) }
+        × IsUnready outcome text.now taken) }
     ensures kept { OnOk result (S.faults input.new ≡ S.faults input.old) }
     ensures counts { IfErr result (λ outcome. (h o : ℕ) → Counts outcome
         (record { shelf = h; input = S.faults input.old; output = o })
         (record { shelf = h; input = S.faults input.new; output = o })) }
 {
-    let (checked, layout) = match front(alloc, text) {
+    let (checked, layout) = match source(alloc, text) {
         Ok(parts) => parts,
         Err(refused) => return Err(outcome_of(refused)),
     };
@@ -72,7 +79,7 @@ fn meaning<S: Source>(
 
 /// Hands the output of a meaning to the sink.
 fn put_meaning<K: Sink>(meant: &Meant, output: &mut K) -> Ending
-    ensures put { HasPut (meaning_of meant.now) result.outcome result.bytes (K.content output.old)
+    ensures put { HasPut (meaning_of meant.now) result.outcome result.told (K.content output.old)
         (K.content output.new) }
     ensures counts { (h i : ℕ) → Counts result.outcome
         (record { shelf = h; input = i; output = K.faults output.old })
@@ -82,11 +89,11 @@ fn put_meaning<K: Sink>(meant: &Meant, output: &mut K) -> Ending
     match put_whole(bytes, output) {
         Ok(()) => Ending {
             outcome: outcome_of_meaning(meant),
-            bytes: Some(bytes.len() as u64),
+            told: Figures::of_bytes(bytes.len() as u64),
         },
         Err(Failed) => Ending {
             outcome: Outcome::WriteFault,
-            bytes: Some(0),
+            told: Figures::of_bytes(0),
         },
     }
 }

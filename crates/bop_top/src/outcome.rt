@@ -1,12 +1,14 @@
 //! How a command has ended.
 
 ghost use Rattle.std.specs.Prelude.{◌≡◌, ℕ};
-ghost use Rattle.bop_top.specs.Headline.{Counts, refused_outcome};
+ghost use Rattle.bop_top.specs.CommandFaults.{Counts};
 ghost use Rattle.bop_top.specs.Statuses.{status_of};
+ghost use Rattle.bop_top.specs.TextSays.{refused_outcome};
 
 use crate::Status;
 use c_tree::{Place, Undefined};
 use low_link::Refused;
+use rv_code::Trap;
 
 /// How a command has ended: a status, but for those of faulty words and of a failed report.
 #[derive(Clone, Copy, Debug, PartialEq, Eq)]
@@ -18,12 +20,13 @@ pub enum Outcome {
     Rejected(Refused),
     ReadFault,
     InputTooLong,
+    Budget,
+    Trapped(Trap, u32),
     StackFull,
     Undefined(Undefined, Place),
     MoreSteps,
     WriteFault,
     OutOfMemory,
-    NotYetBuilt,
 }
 
 impl Outcome {
@@ -39,12 +42,13 @@ impl Outcome {
             Outcome::Rejected(refused) => Status::Rejected(refused),
             Outcome::ReadFault => Status::ReadFault,
             Outcome::InputTooLong => Status::InputTooLong,
+            Outcome::Budget => Status::Budget,
+            Outcome::Trapped(trap, pc) => Status::Trapped(trap, pc),
             Outcome::StackFull => Status::StackFull,
             Outcome::Undefined(act, at) => Status::Undefined(act, at),
             Outcome::MoreSteps => Status::MoreSteps,
             Outcome::WriteFault => Status::WriteFault,
             Outcome::OutOfMemory => Status::OutOfMemory,
-            Outcome::NotYetBuilt => Status::NotYetBuilt,
         }
     }
 }

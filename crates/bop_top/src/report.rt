@@ -1,10 +1,11 @@
-//! The report: a line about how a command has ended, and for a meaning one about the bytes written.
+//! The report: a line about how a command has ended, and lines about its steps and its bytes.
 
 ghost use Rattle.std.specs.Prelude.{◌≡◌, ◌≤◌, ◌<◌, ◌+◌, ◌++◌, length};
 ghost use Rattle.arrayvec.specs.ArrayString.{array_string_len};
-ghost use Rattle.bop_top.specs.Report.{Reported, report_of, bytes_line, text_of, detail, act_text, placed, kind_text, rejection, unreported as unreported_of};
+ghost use Rattle.bop_top.specs.Report.{Reported, report_of, number_line, text_of, detail, act_text, trap_text, placed, kind_text, rejection, unreported as unreported_of};
 
 use crate::Status;
+use crate::ending::Figures;
 use arrayvec::ArrayString;
 use bop_ends::{Failed, Sink};
 use c_check::{CheckFault, CheckKind};
@@ -14,20 +15,20 @@ use c_token::TokenFault;
 use c_tree::{Place, Undefined};
 use itoa::Buffer;
 use low_link::Refused;
+use rv_code::Trap;
 
 /// How many bytes the line about the status has at most.
 pub const LINE_BYTES: usize = 128;
 
 /// How many bytes a report has at most.
-pub const REPORT_BYTES: usize = 160;
+pub const REPORT_BYTES: usize = 192;
 
-/// Reports how a command has ended, and how many bytes it has written where that is told. Answers
-/// how the whole call ends.
-pub fn report_status<R: Sink>(inner: Status, bytes: Option<u64>, report: &mut R) -> Status
-    ensures { Reported inner result bytes (R.content report.old) (R.content report.new)
+/// Reports how a command has ended, and its figures. Answers how the whole call ends.
+pub fn report_status<R: Sink>(inner: Status, told: Figures, report: &mut R) -> Status
+    ensures { Reported inner result told (R.content report.old) (R.content report.new)
         (R.faults report.old) (R.faults report.new) }
 {
-    match report.append(text(inner, bytes).as_str().as_bytes()) {
+    match report.append(text(inner, told).as_str().as_bytes()) {
         Ok(()) => inner,
         Err(Failed) => unreported(inner),
     }
@@ -44,24 +45,28 @@ fn unreported(inner: Status) -> Status
 }
 
 /// The text of a report. It takes no memory.
-fn text(status: Status, bytes: Option<u64>) -> ArrayString<REPORT_BYTES>
-    ensures { result.bytes ≡ report_of status bytes }
+fn text(status: Status, told: Figures) -> ArrayString<REPORT_BYTES>
+    ensures { result.bytes ≡ report_of status told }
 {
     let mut text = ArrayString::new();
     text.push_str("status ");
     push_text(&mut text, status);
     text.push_str("\n");
-    push_bytes(&mut text, bytes);
+    push_number(&mut text, "steps", told.steps);
+    push_number(&mut text, "bytes", told.bytes);
     text
 }
 
-/// Adds the line about the bytes written.
-fn push_bytes(text: &mut ArrayString<REPORT_BYTES>, bytes: Option<u64>)
-    requires { array_string_len text.old ≤ LINE_BYTES }
-    ensures { text.new.bytes ≡ text.old.bytes ++ bytes_line bytes }
+/// Adds the line about a number.
+fn push_number(text: &mut ArrayString<REPORT_BYTES>, name: &str, number: Option<u64>)
+    requires room { array_string_len text.old ≤ 160 }
+    requires short { length name.now ≤ 5 }
+    ensures text { text.new.bytes ≡ text.old.bytes ++ number_line name.now number }
+    ensures few { array_string_len text.new ≤ array_string_len text.old + 27 }
 {
-    if let Some(count) = bytes {
-        text.push_str("bytes ");
+    if let Some(count) = number {
+        text.push_str(name);
+        text.push_str(" ");
         text.push_str(Buffer::new().format(count));
         text.push_str("\n");
     }
@@ -91,6 +96,12 @@ fn push_detail(line: &mut ArrayString<REPORT_BYTES>, status: Status)
         Status::Rejected(refused) => {
             line.push_str(" ");
             push_rejection(line, refused);
+        }
+        Status::Trapped(trap, pc) => {
+            line.push_str(" ");
+            line.push_str(trap_name(trap));
+            line.push_str(" ");
+            line.push_str(Buffer::new().format(pc));
         }
         Status::Undefined(act, at) => {
             line.push_str(" ");
@@ -143,6 +154,23 @@ fn act_name(act: Undefined) -> &'static str
     }
 }
 
+fn trap_name(trap: Trap) -> &'static str
+    ensures name { result.now ≡ trap_text trap }
+    ensures short { length result.now ≤ 11 }
+{
+    match trap {
+        Trap::Fetch => "fetch",
+        Trap::Illegal => "illegal",
+        Trap::Load => "load",
+        Trap::Store => "store",
+        Trap::LoadAlign => "load-align",
+        Trap::StoreAlign => "store-align",
+        Trap::JumpAlign => "jump-align",
+        Trap::Break => "break",
+        Trap::Call => "call",
+    }
+}
+
 /// Adds why a text is rejected.
 fn push_rejection(line: &mut ArrayString<REPORT_BYTES>, refused: Refused)
     requires { array_string_len line.old ≤ 25 }
@@ -160,7 +188,7 @@ fn push_rejection(line: &mut ArrayString<REPORT_BYTES>, refused: Refused)
         Refused::Check(CheckFault::Breach(kind, at)) => push_placed(line, kind_name(kind), at),
         Refused::Layout(LayoutFault::DataTooLarge) => line.push_str("data-too-large"),
         Refused::Layout(LayoutFault::FrameTooLarge(at)) => push_placed(line, "frame-too-large", at),
-        Refused::NotYetBuilt => line.push_str("not-yet-built"),
+        Refused::CodeTooLong => line.push_str("code-too-long"),
         Refused::Token(TokenFault::OutOfMemory)
         | Refused::Parse(ParseFault::OutOfMemory)
         | Refused::Check(CheckFault::OutOfMemory)

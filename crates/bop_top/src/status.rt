@@ -5,6 +5,7 @@ ghost use Rattle.bop_top.specs.Statuses.{row, row_of};
 
 use c_tree::{Place, Undefined};
 use low_link::Refused;
+use rv_code::Trap;
 
 /// How a call has ended.
 #[derive(Clone, Copy, Debug, PartialEq, Eq)]
@@ -25,6 +26,10 @@ pub enum Status {
     ReadFault,
     /// The input has more than 16,777,216 bytes.
     InputTooLong,
+    /// The machine hasn't stopped within the budget.
+    Budget,
+    /// The machine has trapped, at this pc.
+    Trapped(Trap, u32),
     /// A call found no room on the stack.
     StackFull,
     /// The first undefined act, and where it stands.
@@ -37,8 +42,6 @@ pub enum Status {
     ReportFault,
     /// There was no memory.
     OutOfMemory,
-    /// `bop` doesn't know this kind of text yet.
-    NotYetBuilt,
 }
 
 /// An end of a call.
@@ -97,13 +100,14 @@ impl Status {
             Status::Rejected(_) => Row::new("rejected", 5, false, None),
             Status::ReadFault => Row::new("read-fault", 7, false, Some(End::Input)),
             Status::InputTooLong => Row::new("input-too-long", 8, false, None),
+            Status::Budget => Row::new("budget", 9, true, None),
+            Status::Trapped(_, _) => Row::new("trapped", 10, true, None),
             Status::StackFull => Row::new("stack-full", 11, true, None),
             Status::Undefined(_, _) => Row::new("undefined", 12, true, None),
             Status::MoreSteps => Row::new("more-steps", 13, true, None),
             Status::WriteFault => Row::new("write-fault", 14, false, Some(End::Output)),
             Status::ReportFault => Row::new("report-fault", 15, false, Some(End::Report)),
             Status::OutOfMemory => Row::new("out-of-memory", 18, false, None),
-            Status::NotYetBuilt => Row::new("not-yet-built", 19, false, None),
         }
     }
 

@@ -1,14 +1,18 @@
 mod acts;
 mod checks;
+mod expressions;
 mod meanings;
+mod runs;
 
 use super::*;
+use crate::ending::Figures;
 use crate::report::report_status;
 use bop_ends::{MemShelf, MemSink, MemSource};
 use c_check::{CheckFault, CheckKind};
 use c_layout::LayoutFault;
 use c_tree::{Place, Undefined};
 use low_link::Refused;
+use rv_code::Trap;
 use std::alloc::Global;
 use std::collections::BTreeMap;
 use std::test::Fail;
@@ -85,87 +89,6 @@ fn call_with(
 }
 
 #[test]
-fn texts_run_or_are_not_built_yet(rt: HostRuntime) -> Result<(), Fail> {
-    let alloc = rt.alloc();
-    let rows: [(&str, Status, &str, &str); 11] = [
-        (GREETING, Status::Done(0), "A", "done 0"),
-        (
-            "int main(void){putchar('a');putchar(' ');putchar('~');return 7;}\n",
-            Status::Done(7),
-            "a ~",
-            "done 7",
-        ),
-        ("int main(void){return 0;}", Status::Done(0), "", "done 0"),
-        (
-            "int main(void){return 2147483647;}",
-            Status::Done(2147483647),
-            "",
-            "done 2147483647",
-        ),
-        (
-            "int main(void){return 4095;}",
-            Status::Done(4095),
-            "",
-            "done 4095",
-        ),
-        (
-            "int main(void){return 2147483648;}",
-            Status::NotYetBuilt,
-            "",
-            "not-yet-built",
-        ),
-        (
-            "int main(void){return 00;}",
-            Status::NotYetBuilt,
-            "",
-            "not-yet-built",
-        ),
-        (
-            "int main(void){return 0;}\n\n",
-            Status::NotYetBuilt,
-            "",
-            "not-yet-built",
-        ),
-        (
-            "int main(void){putchar('A');putchar('\\');return 0;}",
-            Status::NotYetBuilt,
-            "",
-            "not-yet-built",
-        ),
-        ("int main(void){}", Status::NotYetBuilt, "", "not-yet-built"),
-        ("", Status::NotYetBuilt, "", "not-yet-built"),
-    ];
-    for (text, wanted, bytes, said) in rows {
-        let ended = call(alloc, &["seq", "p.c"], text, &[], &[])?;
-        let line = format!(in alloc; "status {said}\n")?;
-        assert_eq!(rt; ended.status, wanted, "{text}");
-        assert_eq!(rt; ended.output.content(), bytes.as_bytes(), "{text}");
-        assert_eq!(rt; ended.report.content(), line.as_bytes(), "{text}");
-    }
-    Ok(())
-}
-
-#[test]
-fn a_thousand_characters_are_the_most(rt: HostRuntime) -> Result<(), Fail> {
-    let alloc = rt.alloc();
-    let mut puts = String::new(alloc);
-    for _ in 0..1000 {
-        puts.push_str("putchar('x');")?;
-    }
-    let text = format!(in alloc; "int main(void){{{puts}return 0;}}")?;
-    let ended = call(alloc, &["seq", "p.c"], &text, &[], &[])?;
-    assert_eq!(rt; ended.status, Status::Done(0));
-    assert_eq!(rt; ended.output.content().len(), 1000);
-    assert!(rt; ended.output.content().iter().all(|byte| *byte == b'x'));
-
-    let text = format!(in alloc; "int main(void){{{puts}putchar('x');return 0;}}")?;
-    let ended = call(alloc, &["seq", "p.c"], &text, &[], &[])?;
-    assert_eq!(rt; ended.status, Status::NotYetBuilt);
-    assert_eq!(rt; ended.output.content().len(), 0);
-    Ok(())
-}
-
-#[test]
 fn faults_and_faulty_words_are_told(rt: HostRuntime) -> Result<(), Fail> {
     let alloc = rt.alloc();
     let full: &[(u64, usize)] = &[(0, 0)];
@@ -180,7 +103,7 @@ fn faults_and_faulty_words_are_told(rt: HostRuntime) -> Result<(), Fail> {
             &["seq", "p.c"],
             full,
             Status::WriteFault,
-            b"status write-fault\n",
+            b"status write-fault\nsteps 30\nbytes 0\n",
         ),
         (&[], &[], Status::BadWords, b"status bad-words\n"),
         (&["seq"], &[], Status::BadWords, b"status bad-words\n"),
@@ -247,8 +170,9 @@ fn each_status_has_its_code_and_its_line(rt: HostRuntime) -> Result<(), Fail> {
     let breach = CheckFault::Breach(CheckKind::Marker, place);
     let rejected = Status::Rejected(Refused::Check(breach));
     let too_large = Status::Rejected(Refused::Layout(LayoutFault::DataTooLarge));
+    let too_long = Status::Rejected(Refused::CodeTooLong);
     let divided = Status::Undefined(Undefined::Divide, place);
-    let rows: [(Status, u8, &str, bool); 18] = [
+    let rows: [(Status, u8, &str, bool); 19] = [
         (Status::Done(0), 0, "done 0", true),
         (Status::Done(-1), 0, "done -1", true),
         (Status::Done(2147483647), 0, "done 2147483647", true),
@@ -259,14 +183,15 @@ fn each_status_has_its_code_and_its_line(rt: HostRuntime) -> Result<(), Fail> {
         (Status::ProgramTooLong, 4, "program-too-long", false),
         (rejected, 5, "rejected marker 2 13", false),
         (too_large, 5, "rejected data-too-large", false),
+        (too_long, 5, "rejected code-too-long", false),
         (Status::ReadFault, 7, "read-fault", false),
         (Status::InputTooLong, 8, "input-too-long", false),
+        (Status::Budget, 9, "budget", true),
         (Status::StackFull, 11, "stack-full", true),
         (divided, 12, "undefined divide 2 13", true),
         (Status::MoreSteps, 13, "more-steps", true),
         (Status::WriteFault, 14, "write-fault", false),
         (Status::OutOfMemory, 18, "out-of-memory", false),
-        (Status::NotYetBuilt, 19, "not-yet-built", false),
     ];
     for (status, code, said, is_replaced) in rows {
         let unreported = if is_replaced {
@@ -277,12 +202,16 @@ fn each_status_has_its_code_and_its_line(rt: HostRuntime) -> Result<(), Fail> {
         let line = format!(in alloc; "status {said}\n")?;
         let mut report = sink_with(alloc, &[])?;
         assert_eq!(rt; status.code(), code, "{said}");
-        assert_eq!(rt; report_status(status, None, &mut report), status, "{said}");
+        assert_eq!(rt;
+            report_status(status, Figures::none(), &mut report),
+            status,
+            "{said}"
+        );
         assert_eq!(rt; report.content(), line.as_bytes(), "{said}");
 
         let mut report = sink_with(alloc, &[(0, 3)])?;
         assert_eq!(rt;
-            report_status(status, None, &mut report),
+            report_status(status, Figures::none(), &mut report),
             unreported,
             "{said}"
         );
@@ -293,7 +222,35 @@ fn each_status_has_its_code_and_its_line(rt: HostRuntime) -> Result<(), Fail> {
 }
 
 #[test]
-fn the_bytes_of_a_meaning_are_a_line(rt: HostRuntime) -> Result<(), Fail> {
+fn each_trap_has_its_name(rt: HostRuntime) -> Result<(), Fail> {
+    let alloc = rt.alloc();
+    let traps: [(Trap, &str); 9] = [
+        (Trap::Fetch, "fetch"),
+        (Trap::Illegal, "illegal"),
+        (Trap::Load, "load"),
+        (Trap::Store, "store"),
+        (Trap::LoadAlign, "load-align"),
+        (Trap::StoreAlign, "store-align"),
+        (Trap::JumpAlign, "jump-align"),
+        (Trap::Break, "break"),
+        (Trap::Call, "call"),
+    ];
+    for (trap, said) in traps {
+        let status = Status::Trapped(trap, u32::MAX);
+        let text = format!(in alloc; "status trapped {said} 4294967295\nsteps 12\nbytes 3\n")?;
+        let mut report = sink_with(alloc, &[])?;
+        assert_eq!(rt; status.code(), 10);
+        assert_eq!(rt;
+            report_status(status, Figures::of_run(12, 3), &mut report),
+            status
+        );
+        assert_eq!(rt; report.content(), text.as_bytes());
+    }
+    Ok(())
+}
+
+#[test]
+fn the_longest_figures_have_room(rt: HostRuntime) -> Result<(), Fail> {
     let alloc = rt.alloc();
     let place = Place {
         line: 4294967295,
@@ -308,19 +265,23 @@ fn the_bytes_of_a_meaning_are_a_line(rt: HostRuntime) -> Result<(), Fail> {
         (Undefined::Pointer, "pointer"),
         (Undefined::NoValue, "no-value"),
     ];
+    let longest = u64::MAX;
     for (act, said) in acts {
         let text = format!(in alloc;
-            "status undefined {said} 4294967295 4294967295\nbytes 18446744073709551615\n"
+            "status undefined {said} 4294967295 4294967295\nsteps {longest}\nbytes {longest}\n"
         )?;
         let status = Status::Undefined(act, place);
         let mut report = sink_with(alloc, &[])?;
-        assert_eq!(rt; report_status(status, Some(u64::MAX), &mut report), status);
+        assert_eq!(rt;
+            report_status(status, Figures::of_run(u64::MAX, u64::MAX), &mut report),
+            status
+        );
         assert_eq!(rt; report.content(), text.as_bytes());
 
         let mut report = sink_with(alloc, &[(0, 50)])?;
         let unreported = Status::ReportFault;
         assert_eq!(rt;
-            report_status(status, Some(u64::MAX), &mut report),
+            report_status(status, Figures::of_run(u64::MAX, u64::MAX), &mut report),
             unreported
         );
         let front = text.as_bytes().get(..50).ok_or("a front of the report")?;

@@ -1,24 +1,26 @@
 //! The top call.
 
-ghost use Rattle.std.specs.Prelude.{◌≡◌, ◌↔◌, ◌≤◌, [], length, IfOk, OnOk, IfErr, List, ℕ, ℤ, Some, map, string_bytes, IsTrue};
-ghost use Rattle.std.specs.Io.KnownBytes.{Appends};
-ghost use Rattle.bop_top.specs.CommandWords.{AsksMean, AsksNothing, IsMean, request_of};
-ghost use Rattle.bop_top.specs.Headline.{Course, Ended, ends_of, HasMeant, SeqSays, SeqTransfers, CheckSays, CheckTransfers, Counts, IsUnloaded};
+ghost use Rattle.std.specs.Prelude.{◌≡◌, ◌↔◌, ◌≤◌, [], length, IfOk, OnOk, IfErr, List, ℕ, ⊤, None, Some, map, string_bytes, IsTrue, Option};
+ghost use Rattle.c_token.specs.declared.limits.TheConstants.{TEXT_BYTES};
+ghost use Rattle.bop_top.specs.CommandFaults.{Counts};
+ghost use Rattle.bop_top.specs.CommandTransfers.{no_figures};
+ghost use Rattle.bop_top.specs.CommandWords.{Check, Mean, Seq, AsksInput, AsksNothing, IsCheck, request_of};
+ghost use Rattle.bop_top.specs.Headline.{Course, Ended, HasDone, ends_of};
+ghost use Rattle.bop_top.specs.TextSays.{IsUnloaded};
+ghost use Rattle.bop_top.specs.private.Prepared.{HasBounds, IsBounded};
 ghost use Rattle.bop_top.specs.private.Untouched.{Untouched};
 ghost use Rattle.bop_top.specs.declared.status.Status.TheVariants.{BadWords};
 
 use crate::Status;
-use crate::ending::Ending;
+use crate::ending::{Ending, Figures};
 use crate::meaning::mean_text;
 use crate::outcome::{Outcome, outcome_of};
 use crate::report::report_status;
-use crate::run::run;
+use crate::sequential::seq_text;
 use crate::words::{Command, command_of};
 use bop_ends::{LoadFault, Shelf, Sink, Source};
 use c_token::TEXT_BYTES;
-use low_link::{Refused, compile, front};
-use rv_code::{Bytes, Stop};
-use rv_step::{Job, State};
+use low_link::source;
 use std::alloc::Global;
 
 /// How many steps a run takes at most, where the words don't say.
@@ -29,11 +31,12 @@ pub const MOST_BYTES: usize = 1_048_577;
 
 /// Does what the words ask for, reports how that has ended, and hands the output back.
 ///
-/// The words are those behind the program's name: `seq PROG` compiles the text in the file PROG
-/// and runs it on the machine, `check PROG` says whether it is a text of the language, and
-/// `mean PROG`, behind which `--budget N` may stand, reads the input and evaluates the text by the
-/// definition of its meaning. What the program puts goes to the output, and the report has a line
-/// about the status, for `mean` also one about the bytes written.
+/// The words are those behind the program's name: `seq PROG` compiles the text in the file PROG and
+/// runs it on the machine with the input, `check PROG` says whether it is a text that compiles, and
+/// `mean PROG` evaluates it with the input by the definition of its meaning. Behind `seq PROG` and
+/// `mean PROG` may stand `--budget N`. What the program puts goes to the output, and the report has a
+/// line about the status, for `seq` one about the steps, for `seq` and `mean` one about the bytes
+/// written.
 pub fn bop_main<S: Source, K: Sink, R: Sink, H: Shelf>(
     alloc: Global,
     words: &[String],
@@ -51,17 +54,20 @@ pub fn bop_main<S: Source, K: Sink, R: Sink, H: Shelf>(
         (record { content = R.content report.new; faults = R.faults report.new })
         result.0 }
     ensures bad_words { (result.0 ≡ BadWords) ↔ AsksNothing (map string_bytes words.now) }
-    ensures unread { (AsksMean (map string_bytes words.now) → ⊥) → input.new ≡ input.old }
+    ensures unread { (AsksInput (map string_bytes words.now) → ⊥) → input.new ≡ input.old }
     ensures tells { H.tells shelf.new ≡ H.tells shelf.old }
     ensures files { H.file shelf.new ≡ H.file shelf.old }
 {
     let mut output = output;
     let Some(command) = command_of(words) else {
-        return (report_status(Status::BadWords, None, report), output);
+        return (
+            report_status(Status::BadWords, Figures::none(), report),
+            output,
+        );
     };
     let ending = execute(alloc, command, shelf, input, &mut output);
     let inner = ending.outcome.status();
-    (report_status(inner, ending.bytes, report), output)
+    (report_status(inner, ending.told, report), output)
 }
 
 /// Does what a command asks for.
@@ -72,17 +78,18 @@ fn execute<S: Source, K: Sink, H: Shelf>(
     input: &mut S,
     output: &mut K,
 ) -> Ending
+    requires { HasBounds (request_of command) }
     ensures ended { Ended (request_of command.entry)
         (ends_of H.tells H.file H.faults S.left S.faults K.content K.faults
         shelf.old input.old output.old)
         (ends_of H.tells H.file H.faults S.left S.faults K.content K.faults
         shelf.new input.new output.new)
-        result.outcome result.bytes }
-    ensures unread { (IsMean (request_of command.entry) → ⊥) → input.new ≡ input.old }
+        result.outcome result.told }
+    ensures unread { IsCheck (request_of command.entry) → input.new ≡ input.old }
     ensures untouched { Untouched H.tells H.file shelf.old shelf.new }
 {
     match command {
-        Command::Seq(name) => Ending::of(seq(alloc, name, shelf, output)),
+        Command::Seq(name, budget) => seq(alloc, name, budget, shelf, input, output),
         Command::Check(name) => Ending::of(check(alloc, name, shelf)),
         Command::Mean(name, steps) => mean(alloc, name, steps, shelf, input, output),
     }
@@ -110,27 +117,43 @@ fn load<H: Shelf>(alloc: Global, name: &str, shelf: &mut H) -> Result<Vec<u8>, O
     }
 }
 
-/// Loads a program and runs it.
-fn seq<K: Sink, H: Shelf>(alloc: Global, name: &str, shelf: &mut H, output: &mut K) -> Outcome
-    ensures says { (written : List ℕ)
-        × Appends (K.content output.old) (K.content output.new) written
-        × SeqTransfers result written
-        × (IsTrue (H.tells shelf.old) → SeqSays result (H.file shelf.old name.now) written) }
-    ensures counts { (i : ℕ) → Counts result
-        (record { shelf = H.faults shelf.old; input = i; output = K.faults output.old })
-        (record { shelf = H.faults shelf.new; input = i; output = K.faults output.new }) }
+/// Loads a program and runs it with the input.
+fn seq<S: Source, K: Sink, H: Shelf>(
+    alloc: Global,
+    name: &str,
+    budget: u64,
+    shelf: &mut H,
+    input: &mut S,
+    output: &mut K,
+) -> Ending
+    requires { IsBounded budget }
+    ensures done { HasDone (Seq name.now budget) (IsTrue (H.tells shelf.old))
+        (H.file shelf.old name.now) result.outcome result.told
+        (S.left input.old) (S.left input.new) (K.content output.old) (K.content output.new) }
+    ensures counts { Counts result.outcome
+        (record {
+          shelf = H.faults shelf.old;
+          input = S.faults input.old;
+          output = K.faults output.old;
+        })
+        (record {
+          shelf = H.faults shelf.new;
+          input = S.faults input.new;
+          output = K.faults output.new;
+        }) }
     ensures untouched { Untouched H.tells H.file shelf.old shelf.new }
 {
     match load(alloc, name, shelf) {
-        Ok(text) => seq_text(alloc, &text, output),
-        Err(outcome) => outcome,
+        Ok(text) => seq_text(alloc, &text, budget, input, output),
+        Err(outcome) => Ending::of(outcome),
     }
 }
 
 /// Loads a program and checks it.
 fn check<H: Shelf>(alloc: Global, name: &str, shelf: &mut H) -> Outcome
-    ensures transfers { CheckTransfers result [] }
-    ensures says { IsTrue (H.tells shelf.old) → CheckSays result (H.file shelf.old name.now) }
+    ensures done { (left content : Option (List ℕ)) → HasDone (Check name.now)
+        (IsTrue (H.tells shelf.old)) (H.file shelf.old name.now) result no_figures
+        left left content content }
     ensures counts { (i o : ℕ)
         → Counts result (record { shelf = H.faults shelf.old; input = i; output = o })
         (record { shelf = H.faults shelf.new; input = i; output = o }) }
@@ -151,8 +174,8 @@ fn mean<S: Source, K: Sink, H: Shelf>(
     input: &mut S,
     output: &mut K,
 ) -> Ending
-    ensures meant { HasMeant steps (IsTrue (H.tells shelf.old)) (H.file shelf.old name.now)
-        result.outcome result.bytes
+    ensures done { HasDone (Mean name.now steps) (IsTrue (H.tells shelf.old))
+        (H.file shelf.old name.now) result.outcome result.told
         (S.left input.old) (S.left input.new) (K.content output.old) (K.content output.new) }
     ensures counts { Counts result.outcome
         (record {
@@ -176,52 +199,14 @@ fn mean<S: Source, K: Sink, H: Shelf>(
 /// Checks a text.
 fn check_text(alloc: Global, text: &[u8]) -> Outcome
     requires { length text.now ≤ TEXT_BYTES }
-    ensures transfers { CheckTransfers result [] }
-    ensures says { CheckSays result (Some text.now) }
+    ensures done { (name : List ℕ) (left content : Option (List ℕ)) → HasDone (Check name) ⊤
+        (Some text.now) result no_figures left left content content }
     ensures counts { (h i o : ℕ)
         → Counts result (record { shelf = h; input = i; output = o })
         (record { shelf = h; input = i; output = o }) }
 {
-    match front(alloc, text) {
+    match source(alloc, text) {
         Ok(_) => Outcome::Fine,
         Err(refused) => outcome_of(refused),
-    }
-}
-
-/// Compiles a text and runs its program.
-fn seq_text<K: Sink>(alloc: Global, text: &[u8], output: &mut K) -> Outcome
-    requires { length text.now ≤ TEXT_BYTES }
-    ensures says { (written : List ℕ)
-        × Appends (K.content output.old) (K.content output.new) written
-        × SeqTransfers result written × SeqSays result (Some text.now) written }
-    ensures load { result ≡ Outcome.LoadFault → ⊥ }
-    ensures counts { (h i : ℕ)
-        → Counts result (record { shelf = h; input = i; output = K.faults output.old })
-        (record { shelf = h; input = i; output = K.faults output.new }) }
-{
-    let program = match compile(alloc, text) {
-        Ok(program) => program,
-        Err(Refused::NotYetBuilt) => return Outcome::NotYetBuilt,
-        Err(Refused::OutOfMemory) => return Outcome::OutOfMemory,
-        Err(_) => unreachable!(),
-    };
-    let job = Job::of(program, Bytes::of(Vec::new(alloc)), BUDGET, 1);
-    let Ok(mut state) = State::start(alloc, &job) else {
-        return Outcome::OutOfMemory;
-    };
-    match run(&job, &mut state, output) {
-        Ok(()) => Outcome::Done(exit_of(&state)),
-        Err(_) => Outcome::WriteFault,
-    }
-}
-
-/// The exit value of a machine that has exited.
-fn exit_of(state: &State) -> i32
-    requires { (exit : ℤ) × (state.now.stop ≡ Some (Stop.Exit exit)) }
-    ensures { state.now.stop ≡ Some (Stop.Exit result) }
-{
-    match state.stop {
-        Some(Stop::Exit(exit)) => exit,
-        _ => unreachable!(),
     }
 }

@@ -1,9 +1,10 @@
 //! The words of the command line, read by hand.
 
-ghost use Rattle.std.specs.Prelude.{◌≡◌, ◌≢◌, ◌↔◌, ◌∷◌, [], List, ℕ, map, string_bytes, MatchOption, IsTrue};
+ghost use Rattle.std.specs.Prelude.{◌≡◌, ◌≢◌, ◌↔◌, ◌∷◌, [], List, ℕ, map, string_bytes, MatchOption, IfSome, IsTrue};
 ghost use Rattle.std.specs.Char.{IsAsciiDigit};
 ghost use Rattle.std.specs.List.{All};
 ghost use Rattle.bop_top.specs.CommandWords.{Request, IsRequest, IsName, IsBudget, request_of};
+ghost use Rattle.bop_top.specs.private.Prepared.{HasBounds};
 
 use crate::top::BUDGET;
 use rv_step::BUDGET_LIMIT;
@@ -14,8 +15,8 @@ pub const BUDGET_DIGITS: usize = 13;
 /// What the words ask for.
 #[derive(Clone, Copy, Debug)]
 pub enum Command<'a> {
-    /// To run the program of this name.
-    Seq(&'a str),
+    /// To run the program of this name within so many steps.
+    Seq(&'a str, u64),
     /// To check it.
     Check(&'a str),
     /// To tell what it means within so many steps.
@@ -24,7 +25,8 @@ pub enum Command<'a> {
 
 /// What the words ask for.
 pub fn command_of(words: &[String]) -> Option<Command>
-    ensures { MatchOption result
+    ensures bounds { IfSome result (λ command. HasBounds (request_of command)) }
+    ensures command { MatchOption result
         ((request : Request) → IsRequest (map string_bytes words.now) request → ⊥)
         (λ command. IsRequest (map string_bytes words.now) (request_of command)) }
 {
@@ -48,7 +50,7 @@ fn of_two<'a>(first: &str, name: &'a str) -> Option<Command<'a>>
         (λ command. IsRequest (first.now ∷ name.now ∷ []) (request_of command)) }
 {
     if first == "seq" {
-        Some(Command::Seq(name))
+        Some(Command::Seq(name, BUDGET))
     } else if first == "check" {
         Some(Command::Check(name))
     } else if first == "mean" {
@@ -67,15 +69,16 @@ fn of_four<'a>(first: &str, name: &'a str, option: &str, digits: &str) -> Option
         (λ command. IsRequest (first.now ∷ name.now ∷ option.now ∷ digits.now ∷ [])
         (request_of command)) }
 {
-    if first != "mean" {
-        return None;
-    }
     if option != "--budget" {
         return None;
     }
-    match budget_of(digits) {
-        Some(budget) => Some(Command::Mean(name, budget)),
-        None => None,
+    let budget = budget_of(digits)?;
+    if first == "seq" {
+        Some(Command::Seq(name, budget))
+    } else if first == "mean" {
+        Some(Command::Mean(name, budget))
+    } else {
+        None
     }
 }
 

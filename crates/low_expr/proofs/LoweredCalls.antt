@@ -177,7 +177,7 @@ numbered_some : (ds : List Definition) (o : Option ℕ) (d : Definition) → num
 numbered_some ds None d h = cc
 numbered_some ds (Some k) d h = (k, refl, within ds k d h)
 
-has_number : (names : Labelled) (labels : ℕ) (text : List Item) (name : List ℕ) (d : Definition)
+pub has_number : (names : Labelled) (labels : ℕ) (text : List Item) (name : List ℕ) (d : Definition)
     → HasLabels names labels → AreFunctionsOf text names → definition text name ≡ Some d
     → HasNumber names name
 has_number names labels text name d has functions is =

@@ -1,3 +1,3 @@
-mod ClosedLemmas
+pub mod ClosedLemmas
 pub mod EmissionLemmas
-mod Standing
+pub mod Standing

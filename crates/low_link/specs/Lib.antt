@@ -1,6 +1,5 @@
-pub mod Code
-pub mod Form
-pub mod FormLaws
+pub mod Compiled
 pub mod Front
 pub mod Refused
+pub mod SourceSimulation
 pub mod private

@@ -7,18 +7,13 @@ use Rattle.c_layout.specs.declared.fault.LayoutFault.{LayoutFault}
 use Rattle.c_layout.specs.declared.fault.LayoutFault.TheVariants as layout
 use Rattle.c_token.specs.declared.fault.TokenFault.{TokenFault}
 use Rattle.c_token.specs.declared.fault.TokenFault.TheVariants as token
+use Rattle.low_labels.specs.declared.fault.AsmFault.{AsmFault}
+use Rattle.low_labels.specs.declared.fault.AsmFault.TheVariants as code
 use Rattle.low_link.specs.declared.refused.Refused.{Refused}
-use Rattle.low_link.specs.declared.refused.Refused.TheVariants.{Token, Parse, Check, Layout, NotYetBuilt, OutOfMemory}
-
--- what the compiler of the one form answers
-abbrev pub IsUnbuilt : Refused → Type 0
-IsUnbuilt NotYetBuilt = Unit {0}
-IsUnbuilt OutOfMemory = Unit {0}
-IsUnbuilt _ = ⊥
+use Rattle.low_link.specs.declared.refused.Refused.TheVariants.{Token, Parse, Check, Layout, CodeTooLong, OutOfMemory}
 
 -- a text is at fault
 abbrev pub IsRejection : Refused → Type 0
-IsRejection NotYetBuilt = ⊥
 IsRejection OutOfMemory = ⊥
 IsRejection _ = Unit {0}
 
@@ -37,3 +32,7 @@ of_check fault = Check fault
 abbrev pub of_layout : LayoutFault → Refused
 of_layout layout.OutOfMemory = OutOfMemory
 of_layout fault = Layout fault
+
+abbrev pub of_code : AsmFault → Refused
+of_code code.CodeTooLong = CodeTooLong
+of_code code.OutOfMemory = OutOfMemory

@@ -4,6 +4,7 @@ use c_check::CheckFault;
 use c_expr::ParseFault;
 use c_layout::LayoutFault;
 use c_token::TokenFault;
+use low_labels::AsmFault;
 use std::alloc::{AllocError, AllocFailed};
 
 /// Why a text has no program.
@@ -17,8 +18,8 @@ pub enum Refused {
     Check(CheckFault),
     /// Its objects don't fit into the memory.
     Layout(LayoutFault),
-    /// The compiler doesn't know this kind of text yet.
-    NotYetBuilt,
+    /// It has more parts than one whose code fits.
+    CodeTooLong,
     /// There was no memory.
     OutOfMemory,
 }
@@ -97,6 +98,20 @@ impl From<LayoutFault> for Refused {
         match fault {
             LayoutFault::OutOfMemory => Refused::OutOfMemory,
             fault => Refused::Layout(fault),
+        }
+    }
+}
+
+impl From<AsmFault> for Refused {
+    ghost use Rattle.std.specs.Prelude.{◌≡◌};
+    ghost use Rattle.low_link.specs.Refused.{of_code};
+
+    ghost from_gives = { λ fault refused. refused ≡ of_code fault };
+
+    fn from(fault: AsmFault) -> Self {
+        match fault {
+            AsmFault::CodeTooLong => Refused::CodeTooLong,
+            AsmFault::OutOfMemory => Refused::OutOfMemory,
         }
     }
 }

@@ -20,7 +20,8 @@ pub record Sized (size slots : ℕ) : Type 0 where
   pub slots_before : slots ≤ last_word size
   pub aligned : size % 4 ≡ 0
 
-pub frame_sized : (ps : List Param) (body : Stmts) → Sized (frame_of ps body).size (frame_of ps body).slots
+pub frame_sized : (ps : List Param) (body : Stmts)
+    → Sized (frame_of ps body).size (frame_of ps body).slots
 frame_sized ps body =
     let f = frame_of ps body in
     let h = end_after (4 * f.slots) (rooms ps body) in
@@ -36,7 +37,8 @@ deeper size store = with_stack (store.sp - size) store
 
 module _ (size slots : ℕ) (sized : Sized size slots) (store : Store) (f : Framed store.sp 0 store)
     (room : STACK_FROM + size ≤ store.sp) where
-  pub deeper_framed : (k : ℕ) → k ≤ last_word size + 1 → Framed (store.sp - size) k (deeper size store)
+  pub deeper_framed : (k : ℕ) → k ≤ last_word size + 1
+      → Framed (store.sp - size) k (deeper size store)
   deeper_framed k le = record {
     is = refl;
     aligned = omega (arith, f.aligned, sized.aligned);

@@ -33,7 +33,8 @@ module _ (code : List ℕ) (labels : ℕ → ℕ) (text : List Item) where
   pub record IsPlaced (name : List ℕ) (d : Definition) : Type 0 where
     pub at : ℕ
     pub label : ℕ
-    pub has : HasAt code labels at (fun_code (label_of text) (names_in text) d.function d.body label)
+    pub has : HasAt code labels at
+        (fun_code (label_of text) (names_in text) d.function d.body label)
     pub named : d.function.name ≡ name
     pub ready : IsReadyFun (definition text) (names_in text) d.function d.body
 

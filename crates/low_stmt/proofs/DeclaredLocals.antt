@@ -93,7 +93,8 @@ module _ (functions : List ℕ → ℕ) (defined : List ℕ → Option Definitio
       (slot_fits frame 0 v s ag.small hv) same)
 
   -- what was in a local doesn't count any more
-  blank_done : (place size i : ℕ) → IsDone for_statement code input frame room top m i (λ u. i) Anything
+  blank_done : (place size i : ℕ)
+      → IsDone for_statement code input frame room top m i (λ u. i) Anything
       (now >>= λ store. change (record store { bytes = blank (store.sp + place) size store.bytes }))
   blank_done place size i store n s le pc ag f =
       record {

@@ -134,7 +134,8 @@ module _ (code input : List ℕ) (short : length code ≤ CODE_WORDS) (labels : 
       ∙ ap (λ q. not (nat_lt q (STACK_FROM + size))) a.stack
 
   -- where the stack has no room, the machine stops for that reason
-  pub stopped_full : (i : ℕ) (store : Store) (s : State) → nat_lt store.sp (STACK_FROM + size) ≡ true
+  pub stopped_full : (i : ℕ) (store : Store) (s : State)
+      → nat_lt store.sp (STACK_FROM + size) ≡ true
       → s.pc ≡ address_of i → Agrees store s → HasAt code labels i (enter_code size label)
       → (j : ℕ) × (s' : State) × (j ≤ 12) × (run code input j (Running s) ≡ Stopped s' stop.StackFull)
       × (s'.output ≡ store.output)

@@ -82,7 +82,8 @@ module _ (text : List Item) (functions : FunsFit text text) where
       (Routine (result_shape f) (parameter_shapes f.parameters) (definition text f.name))
   function_fits f other e shaped = (shaped, has_code (definition text f.name) refl)
     where
-      has_code : (o : Option Definition) → definition text f.name ≡ o → IfSome o (HasCode defined other)
+      has_code : (o : Option Definition) → definition text f.name ≡ o
+          → IfSome o (HasCode defined other)
       has_code None h = tt
       has_code (Some d) h =
           (ap (definition text) (sym e) ∙ h, few_parameters text f.name d functions h)

@@ -152,7 +152,8 @@ unwritten_length : (n : ℕ) (addresses : List ℕ) (ds : List Var)
 unwritten_length n addresses ds =
     length-first addresses ds (replicate n None) ∙ length-replicate n None
 
-taken_length : (k : ℕ) (cells : List (Option ℕ)) → length (take k (map byte_or_zero cells)) ≤ length cells
+taken_length : (k : ℕ) (cells : List (Option ℕ))
+    → length (take k (map byte_or_zero cells)) ≤ length cells
 taken_length zero cells = omega arith
 taken_length (suc k) [] = omega arith
 taken_length (suc k) (c ∷ cells) = let h = taken_length k cells in omega (arith, h)

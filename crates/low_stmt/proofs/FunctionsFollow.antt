@@ -76,7 +76,8 @@ end_left : (main : Bool) (result : Ty) (s : State) → (main ≡ true → regist
 end_left true result s h = (h refl, omega arith)
 end_left false result s h = λ e. cc
 
-return_left : (main : Bool) (result : Ty) (v : Option ℕ) (s : State) → FlowLeft result (AtReturn v) s
+return_left : (main : Bool) (result : Ty) (v : Option ℕ) (s : State)
+    → FlowLeft result (AtReturn v) s
     → CallLeft main result v s
 return_left main result None s h = λ e. h
 return_left main result (Some v) s h = h
@@ -217,7 +218,8 @@ module _ (code input : List ℕ) (short : length code ≤ CODE_WORDS) (labels : 
         );
       }
     where
-      call_left : (v : Option ℕ) (s3 s4 : State) → register s4.registers 10 ≡ register s3.registers 10
+      call_left : (v : Option ℕ) (s3 s4 : State)
+          → register s4.registers 10 ≡ register s3.registers 10
           → CallLeft main result v s3 → CallLeft main result v s4
       call_left None s3 s4 same h = h
       call_left (Some v) s3 s4 same h = (same ∙ h.0, h.1)

@@ -44,7 +44,8 @@ module _ (code input : List ℕ) (short : length code ≤ CODE_WORDS) (labels : 
       (s : State) → effect_in x (register s.registers) s.pc
       ≡ Stores (sum (register s.registers 7) (word (pos 0))) size (register s.registers 5)
 
-  object_written : (x : Instr) (c size i at v n : ℕ) (place : Place) (xs : List Instr) (env env0 : Env)
+  object_written : (x : Instr) (c size i at v n : ℕ) (place : Place) (xs : List Instr)
+      (env env0 : Env)
       (s : State) (store : Store) → IsStore x size → 0 < size → length xs + 1 ≤ c → Agrees store s
       → Framed frame room store → s.pc ≡ address_of i → HasAt code labels i (all_do xs ++ op.Do x ∷ [])
       → Takes s.memory i xs (register s.registers) env → env 2 ≡ frame → env 5 ≡ v → env 7 ≡ at

@@ -26,7 +26,8 @@ opened ls store = record store {
   bytes = all_blank store.sp ls store.bytes;
 }
 
-pub lives_more : (ls : List Local) (store : Store) (b : ℕ) → Lives store b → Lives (opened ls store) b
+pub lives_more : (ls : List Local) (store : Store) (b : ℕ) → Lives store b
+    → Lives (opened ls store) b
 lives_more ls store b h =
     list_any-append (holds b 1) store.live (map (object_at store.sp) ls)
     ∙ ap (λ x. x || list_any (holds b 1) (map (object_at store.sp) ls)) h

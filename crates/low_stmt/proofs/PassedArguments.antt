@@ -109,7 +109,8 @@ module _ (code input : List ℕ) (short : length code ≤ CODE_WORDS) (labels : 
       (move ++ t2) env2 s store (omega (arith, frame_length (is_near place) 7 place)) ag f pc has
       (takes_append s.memory move t2 i env0 env1 env2 takes1 takes2) stack refl passed.1 same)
 
-  pub pass_follows : (r : ℕ) (places : List ℕ) (ps : List Param) (vs : List ℕ) (i n : ℕ) (store : Store)
+  pub pass_follows : (r : ℕ) (places : List ℕ) (ps : List Param) (vs : List ℕ) (i n : ℕ)
+      (store : Store)
       (s : State) → length vs ≡ length ps → length ps ≤ 8 → 10 ≤ r → r + length ps ≤ 18
       → AreWithin defined room top (parameter_locals places ps)
       → HasAt code labels i (pass_code r places ps) → Passed r vs s → s.pc ≡ address_of i

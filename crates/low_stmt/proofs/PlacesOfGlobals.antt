@@ -36,7 +36,7 @@ record Bounded (low high : ℕ) (c : Cursors) (gs : List Global) : Type 0 where
   pub private_to : end_of c.private (kept Private gs) ≤ high
 
 -- declarators of just these types
-abbrev AreOf : List Global → List Var → Type 0
+abbrev pub AreOf : List Global → List Var → Type 0
 AreOf [] [] = Unit {0}
 AreOf (g ∷ gs) (d ∷ ds) = (g.shape ≡ declared_shape d) × AreOf gs ds
 AreOf [] (d ∷ ds) = ⊥
@@ -47,7 +47,7 @@ of_append : (keep : Keep) (ds : List Var) (gs : List Global) (es : List Var) →
 of_append keep [] gs es h = h
 of_append keep (d ∷ ds) gs es h = (refl, of_append keep ds gs es h)
 
-of_text : (text : List Item) → AreOf (globals text) (global_declarators text)
+pub of_text : (text : List Item) → AreOf (globals text) (global_declarators text)
 of_text [] = tt
 of_text (item.Vars keep ds ∷ rest) =
     of_append keep ds (globals rest) (global_declarators rest) (of_text rest)

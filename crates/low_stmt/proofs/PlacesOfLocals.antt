@@ -43,7 +43,8 @@ module _ (low high : ℕ) where
       (le, omega (arith, rest), offsets_hold (at + room_of d) ds (omega arith) fits)
 
 module _ (defined : List ℕ → Option Definition) (room top : ℕ) where
-  within_append : (xs ys : List Local) → AreWithin defined room top xs → AreWithin defined room top ys
+  within_append : (xs ys : List Local) → AreWithin defined room top xs
+      → AreWithin defined room top ys
       → AreWithin defined room top (xs ++ ys)
   within_append [] ys h g = g
   within_append (x ∷ xs) ys h g = (h.0, h.1, within_append xs ys h.2 g)

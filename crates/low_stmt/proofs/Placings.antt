@@ -1,6 +1,6 @@
 -- How often operations place a label.
-use Rattle.std.proofs.Common.{◌≡◌, ◌≢◌, ℕ, ◌+◌, ◌<◌, ◌≤◌, List, [], ◌∷◌, ◌++◌, refl, arith, ap, ◌==◌}
-use Rattle.std.specs.Prelude.{Bool, true, false, if◌then◌else◌, nat_lt}
+use Rattle.std.proofs.Common.{◌≡◌, ◌≢◌, ℕ, ◌+◌, ◌<◌, ◌≤◌, ◌⊎◌, List, [], ◌∷◌, ◌++◌, refl, arith, ap, ◌==◌, ⊎_elim}
+use Rattle.std.specs.Prelude.{Bool, if◌then◌else◌, nat_lt}
 use Rattle.std.proofs.lemmas.Bool.Decides.{nat_tests}
 use Rattle.rv_code.specs.declared.instr.Instr.{Instr}
 use Rattle.low_labels.specs.Closed.{IsUnplaced, ArePlacedOnce}
@@ -45,6 +45,12 @@ module _ (label : ℕ) where
 
   pub among_most : (n : ℕ) → among n label ≤ 1
   among_most n = grind (arith, nat_tests)
+
+  -- a label that isn't between two numbers
+  pub among_outside : (from to : ℕ) → from ≤ to → (label < from) ⊎ (to ≤ label)
+      → among from label ≡ among to label
+  among_outside from to le out =
+      ⊎_elim (λ low. grind (arith, nat_tests)) (λ high. grind (arith, nat_tests)) out
 
   pub unplaced : (os : List Operation) → placings label os ≡ 0 → IsUnplaced label os
   unplaced [] none = tt

@@ -1,6 +1,6 @@
 -- The code of a statement places each label at most once, and only those that the statement takes.
-use Rattle.std.proofs.Common.{◌≡◌, ℕ, ◌+◌, ◌≤◌, List, [], ◌∷◌, ◌++◌, length, refl, arith, Option, Some, None}
-use Rattle.std.specs.Prelude.{Bool, true, false, drop, pos}
+use Rattle.std.proofs.Common.{◌≡◌, ℕ, ◌+◌, List, [], ◌∷◌, ◌++◌, length, refl, arith, Option, Some, None}
+use Rattle.std.specs.Prelude.{Bool, true, false, drop}
 use Rattle.rv_code.specs.declared.instr.Instr.{Instr}
 use Rattle.c_tree.specs.declared.tree.Marker.{Marker}
 use Rattle.c_tree.specs.declared.tree.Marker.TheVariants as marker

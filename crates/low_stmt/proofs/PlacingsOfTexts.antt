@@ -23,7 +23,7 @@ use Rattle.low_expr.specs.ExprCode.{machine_call}
 use Rattle.low_stmt.specs.DefinedOnce.{AreDefinedOnce}
 use Rattle.low_stmt.specs.FunCode.{last_word, enter_code, leave_code, pass_code, end_code, labels_in_body, body_of, targets_from, fun_code}
 use Rattle.low_stmt.specs.StmtCode.{write_code, labels_in_stmts, stmts_code}
-use Rattle.low_stmt.specs.TextCode.{counted_with, definitions_in, before_by, before_in, label_of, boot_code, labels_with, names_in, labels_in_functions, labels_in_text, definition_code, functions_code, text_code}
+use Rattle.low_stmt.specs.TextCode.{counted_with, definitions_in, before_by, before_in, label_of, boot_code, labels_with, names_in, labels_in_functions, definition_code, functions_code, text_code}
 use Rattle.low_stmt.proofs.Placings.{one_if, placings, among, placings-append, placings_do, among_next, among_most, among_same, placed_once}
 use Rattle.low_stmt.proofs.PlacingsOfStatements.{write_placings, stmts_place}
 
@@ -65,7 +65,7 @@ module _ (k : ℕ) where
       )
 
   -- a function's own label, and those within it
-  fun_places : (functions : List ℕ → ℕ) (names : Names) (f : Fun) (body : Stmts) (label : ℕ)
+  pub fun_places : (functions : List ℕ → ℕ) (names : Names) (f : Fun) (body : Stmts) (label : ℕ)
       → placings k (fun_code functions names f body label) + among label k
       ≤ one_if (k == functions f.name) + among (label + labels_in_body body) k
   fun_places functions names f body label =
@@ -122,7 +122,7 @@ before_none None b found label from n same is = tt
 before_none (Some body) true found label from n same is = omega (arith, is refl)
 before_none (Some body) false found label from n same is = absurd (true≢false (sym same))
 
-labels_more : (body : Option Stmts) (label n : ℕ)
+pub labels_more : (body : Option Stmts) (label n : ℕ)
     → labels_with body label + n ≡ label + labels_with body n
 labels_more None label n = refl
 labels_more (Some body) label n = omega arith
@@ -138,14 +138,14 @@ module _ (text : List Item) where
   HaveLabels from items = (name : List ℕ) → is_defined items name ≡ true
       → label_of text name ≡ from + before_in items name
 
-  labels_behind : (from : ℕ) (f : Fun) (rest : List Item) → AreDefinedOnce (item.Fun f ∷ rest)
+  pub labels_behind : (from : ℕ) (f : Fun) (rest : List Item) → AreDefinedOnce (item.Fun f ∷ rest)
       → HaveLabels from (item.Fun f ∷ rest) → HaveLabels (counted_with f.body from) rest
   labels_behind from f rest once have = λ name here.
       have name (or_right (is_defined_by name (item.Fun f)) (is_defined rest name) here)
       ∙ before_more f.body (bytes_eq f.name name) from (before_in rest name)
       (other_names f rest name f.body once.0 here)
 
-  own_label : (from : ℕ) (f : Fun) (rest : List Item) → HaveLabels from (item.Fun f ∷ rest)
+  pub own_label : (from : ℕ) (f : Fun) (rest : List Item) → HaveLabels from (item.Fun f ∷ rest)
       → IfSome f.body (λ s. label_of text f.name ≡ from)
   own_label from f rest have =
       before_none f.body (bytes_eq f.name f.name) (is_defined rest f.name) (label_of text f.name) from
@@ -166,7 +166,7 @@ module _ (text : List Item) where
           among_same k (1 + from) (from + 1) (omega arith),
         )
 
-    functions_place : (label from : ℕ) (items : List Item) → AreDefinedOnce items
+    pub functions_place : (label from : ℕ) (items : List Item) → AreDefinedOnce items
         → HaveLabels from items
         → placings k (functions_code text label items) + among label k + among from k
         ≤ among (label + labels_in_functions items) k + among (from + definitions_in items) k

@@ -103,7 +103,8 @@ module _ (code input : List ℕ) (short : length code ≤ CODE_WORDS) (labels : 
       × Follows code input u store 0 top n ends s1 W (f v store n)
 
   -- one part and then another
-  pub then_does : {A B : Type 0} {p t : Terms} {mids : A → ℕ} {V : A → State → Type 0} {ends : B → ℕ}
+  pub then_does : {A B : Type 0} {p t : Terms} {mids : A → ℕ} {V : A → State → Type 0}
+      {ends : B → ℕ}
       {W : B → State → Type 0} (i : ℕ) (r : Run A) (f : A → Run B)
       → p.credit + t.over ≤ t.credit + p.over → p.credit ≤ p.slack + 255
       → Does p i mids V r → Goes_on p t mids V ends W f → Does t i ends W (r >>= f)

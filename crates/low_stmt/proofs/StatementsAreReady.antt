@@ -31,7 +31,8 @@ module _ (defined : List ℕ → Option Definition) where
   local_fits names name shape place fit near sized shaped other named is =
       decided (bytes_eq name other) is
     where
-      same : Some (Variable shape (InFrame place)) ≡ Some named → Variable shape (InFrame place) ≡ named
+      same : Some (Variable shape (InFrame place)) ≡ Some named
+          → Variable shape (InFrame place) ≡ named
       same h = cc
 
       decided : (b : Bool)

@@ -51,7 +51,7 @@ module _ (defined : List ℕ → Option Definition) (room top : ℕ) (small : 4 
       one (Some name) =
           local_fits defined names name (parameter_shape p) place fit (omega (arith, w.1)) fits.0 fits.1
 
-frame_ends : (ps : List Param) (body : Stmts)
+pub frame_ends : (ps : List Param) (body : Stmts)
     → end_from (4 * body_slots body) (rooms ps body) ≤ 4 * last_word (frame_of ps body).size
 frame_ends ps body = omega arith
 
@@ -79,7 +79,7 @@ module _ (text : List Item) where
       }
 
   -- the frames of a function and of those after it aren't too large
-  small_frames : (f : Fun) (body : Option Stmts) (rest : List Laid)
+  pub small_frames : (f : Fun) (body : Option Stmts) (rest : List Laid)
       → first_too_large (framed f body ++ rest) ≡ None
       → IfSome body (λ b. (frame_of f.parameters b).size ≤ 2 ^ 16) × (first_too_large rest ≡ None)
   small_frames f None rest e = (tt, e)

@@ -29,7 +29,7 @@ use Rattle.low_stmt.specs.TextReadiness.{AreReadyFuns, IsReadyText}
 use Rattle.low_stmt.proofs.FunctionsFollow.{end_length}
 use Rattle.low_stmt.proofs.WordsOfStatements.{write_words, stmts_words}
 
-enter_words : (size label : ℕ) → width_of (enter_code size label) ≤ 13
+pub enter_words : (size label : ℕ) → width_of (enter_code size label) ≤ 13
 enter_words size label =
     let limit = constant 5 (STACK_FROM + size) in
     let find = frame_address 7 (4 * last_word size) in
@@ -48,7 +48,7 @@ enter_words size label =
       frame_length (is_near (4 * last_word size)) 7 (4 * last_word size),
     )
 
-leave_words : (size : ℕ) → width_of (leave_code size) ≤ 7
+pub leave_words : (size : ℕ) → width_of (leave_code size) ≤ 7
 leave_words size =
     let take = take_slot 1 (last_word size) in
     let add : List Instr = instr.Add 2 2 5 ∷ [] in
@@ -105,7 +105,7 @@ module _ (functions : List ℕ → ℕ) (defined : List ℕ → Option Definitio
       )
 
 module _ (text : List Item) where
-  definition_words : (f : Fun) (body : Option Stmts) (label : ℕ)
+  pub definition_words : (f : Fun) (body : Option Stmts) (label : ℕ)
       → IfSome body (IsReadyFun (definition text) (names_in text) f)
       → width_of (definition_code text f body label)
       ≤ 32 * (1 + length f.parameters + count_body body)
@@ -127,7 +127,7 @@ module _ (text : List Item) where
         functions_words (labels_with f.body label) rest ready.1,
       )
 
-boot_words : (main : ℕ) → width_of (boot_code main) ≤ 5
+pub boot_words : (main : ℕ) → width_of (boot_code main) ≤ 5
 boot_words main =
     omega (
       arith,

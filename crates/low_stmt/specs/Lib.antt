@@ -11,6 +11,8 @@ pub mod TextProgram
 pub mod TextSimulation
 pub mod CodeBound
 pub mod FittingTexts
+pub mod ParsedTexts
 pub mod RegionEnds
 pub mod DefinedOnce
+pub mod FunLowering
 pub mod private

@@ -1,5 +1,5 @@
--- The code of a marker: a call of the machine, with what it takes in a0, a1 and a2. After the end of a
--- region there is a label.
+-- The code of a marker: a call of the machine, with what it takes in a0, a1 and a2. After the end of
+-- a region there is a label.
 use Rattle.std.specs.Prelude.{ℕ, List, [], ◌∷◌, ◌++◌, pos}
 use Rattle.rv_code.specs.declared.instr.Instr.{Instr}
 use Rattle.rv_code.specs.declared.instr.Instr.TheVariants as instr
@@ -41,7 +41,8 @@ module _ (names : Names) where
 
   abbrev pub marker_code : (label : ℕ) → Marker → List Operation
   marker_code label (marker.Begin k) = all_do (constant a0 k) ++ machine_call 3
-  marker_code label (marker.End k) = all_do (constant a0 k) ++ (machine_call 4 ++ op.Mark label ∷ [])
+  marker_code label (marker.End k) =
+      all_do (constant a0 k) ++ (machine_call 4 ++ op.Mark label ∷ [])
   marker_code label (marker.Post channel name at count) =
       all_do (take_variable a1 name at ++ (take_count count ++ constant a0 channel))
       ++ machine_call 5

@@ -1,6 +1,7 @@
 -- The program of a text: its code, and the bytes of its globals.
 use Rattle.std.specs.Prelude.{ℕ, ◌+◌, ◌-◌, Bool, true, bytes_eq, List, [], ◌∷◌, ◌++◌, take, map, Option, Some, None}
 use Rattle.bop_bits.specs.declared.map.TheConstants.{DATA_FROM, STACK_TO}
+use Rattle.low_labels.specs.Emission.{Emission, emit_all, labelled}
 use Rattle.low_labels.specs.Operation.{Operation}
 use Rattle.low_labels.specs.Operation as op
 use Rattle.c_tree.specs.Stmt.{Stmts}
@@ -77,6 +78,10 @@ module _ (text : List Item) where
   abbrev pub text_code : List Operation
   text_code =
       boot_code (label_of text main_name) ++ functions_code (definitions_in text) text
+
+-- the code as it is written, with all of its labels made first
+abbrev pub emitted : List Item → Emission
+emitted text = emit_all (text_code text) (labelled (labels_in_text text))
 
 -- a byte that isn't written is 0
 abbrev pub byte_or_zero : Option ℕ → ℕ

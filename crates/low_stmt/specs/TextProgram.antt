@@ -5,9 +5,8 @@ use Rattle.rv_code.specs.Step.{address_of}
 use Rattle.c_layout.specs.Laid.{plan}
 use Rattle.c_tree.specs.Item.{Item}
 use Rattle.low_labels.specs.Closed.{place_in, words_of}
-use Rattle.low_labels.specs.Emission.{Emission, labelled, emit_all}
 use Rattle.low_stmt.specs.RegionEnds.{ends_in_text, with_ends}
-use Rattle.low_stmt.specs.TextCode.{data_of, labels_in_text, text_code}
+use Rattle.low_stmt.specs.TextCode.{data_of, emitted}
 
 -- the program of a text with words of code, whose labels are at these places
 abbrev pub program_with : (code : List ℕ) (labels : ℕ → ℕ) → List Item → Program
@@ -19,11 +18,7 @@ program_with code labels text = record {
   ends = with_ends labels (ends_in_text text) (replicate 256 0);
 }
 
--- the code of a text, with all its labels
-abbrev pub emission_of : List Item → Emission
-emission_of text = emit_all (text_code text) (labelled (labels_in_text text))
-
--- its words, where each label has its place
+-- the words of its code, where each label has its place
 abbrev pub program_of : List Item → Program
 program_of text =
-    let e = emission_of text in program_with (words_of e) (place_in e.places) text
+    let e = emitted text in program_with (words_of e) (place_in e.places) text

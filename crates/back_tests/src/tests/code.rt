@@ -1,25 +1,45 @@
-//! The code of a text.
+//! The program of a text.
 
 use low_link::compile;
 use std::test::Fail;
 
-/// As an assembler writes `addi a7, x0, 2`, `addi a0, x0, 65`, `ecall`, `lui a0, 1`,
-/// `addi a0, a0, -2048`, `addi a7, x0, 0` and `ecall`.
+const TEXT: &[u8] = b"int a; BOP_CHECKED char c=7; BOP_PRIVATE int p[2]={1,258};
+int main(void){BeginPPR(9); a=1; EndPPR(9); return 0;}";
+
+/// Each section has a page here: the data are three pages, with the first values of the globals.
 #[test]
-fn a_text_has_the_code_of_its_character_and_its_value(rt: HostRuntime) -> Result<(), Fail> {
-    let text = b"int main(void){putchar('A');return 2048;}";
-    let program = compile(rt.alloc(), text).ok().ok_or("no program")?;
-    let words = [
-        0x0020_0893,
-        0x0410_0513,
-        0x0000_0073,
-        0x0000_1537,
-        0x8005_0513,
-        0x0000_0893,
-        0x0000_0073,
-    ];
-    assert_eq!(rt; program.code.get(), words.as_slice());
-    assert_eq!(rt; program.bytes.get().len(), 0);
+fn a_program_has_its_data_and_classes(rt: HostRuntime) -> Result<(), Fail> {
+    let program = compile(rt.alloc(), TEXT).ok().ok_or("no program")?;
+    let bytes = program.bytes.get();
     assert_eq!(rt; program.entry, 0x0001_0000);
+    assert_eq!(rt; program.classes.checked_from, 1);
+    assert_eq!(rt; program.classes.private_from, 2);
+    assert_eq!(rt; program.classes.private_to, 3);
+    assert_eq!(rt; bytes.len(), 3 * 4096);
+    for (at, byte) in bytes.iter().enumerate() {
+        let wanted = match at {
+            4096 => 7,
+            8192 | 8197 => 1,
+            8196 => 2,
+            _ => 0,
+        };
+        assert_eq!(rt; *byte, wanted, "{at}");
+    }
+    Ok(())
+}
+
+/// A region ends right behind the ECALL of its EndPPR, and a number without a region is at 0.
+#[test]
+fn a_program_knows_where_its_regions_end(rt: HostRuntime) -> Result<(), Fail> {
+    let program = compile(rt.alloc(), TEXT).ok().ok_or("no program")?;
+    let code = program.code.get();
+    for (number, end) in program.ends.iter().enumerate() {
+        if number == 9 {
+            let last = (*end as usize).saturating_sub(0x0001_0004) / 4;
+            assert_eq!(rt; code.get(last).copied(), Some(0x0000_0073));
+        } else {
+            assert_eq!(rt; *end, 0, "{number}");
+        }
+    }
     Ok(())
 }

@@ -215,25 +215,29 @@ fn bytes_of(alloc: Global, count: usize) -> Result<Vec<u8>, Fail> {
 #[test]
 fn the_longest_input_is_read(rt: HostRuntime) -> Result<(), Fail> {
     let alloc = rt.alloc();
-    let input = MemSource::new(bytes_of(alloc, 16_777_216)?, 65_536, Vec::new(alloc));
-    let ended = call_with(alloc, &["mean", "p.c"], GREETING, input, &[], &[])?;
-    assert_eq!(rt; ended.status, Status::Done(0));
-    assert_eq!(rt; ended.output.content(), b"A".as_slice());
-    assert_eq!(rt; ended.input.left().len(), 0);
+    for command in ["mean", "seq"] {
+        let input = MemSource::new(bytes_of(alloc, 16_777_216)?, 65_536, Vec::new(alloc));
+        let ended = call_with(alloc, &[command, "p.c"], GREETING, input, &[], &[])?;
+        assert_eq!(rt; ended.status, Status::Done(0));
+        assert_eq!(rt; ended.output.content(), b"A".as_slice());
+        assert_eq!(rt; ended.input.left().len(), 0);
+    }
     Ok(())
 }
 
 #[test]
 fn a_longer_input_is_too_long(rt: HostRuntime) -> Result<(), Fail> {
     let alloc = rt.alloc();
-    let input = MemSource::new(bytes_of(alloc, 16_777_217)?, 65_536, Vec::new(alloc));
-    let ended = call_with(alloc, &["mean", "p.c"], GREETING, input, &[], &[])?;
-    assert_eq!(rt; ended.status, Status::InputTooLong);
-    assert_eq!(rt; ended.output.content().len(), 0);
-    assert_eq!(rt;
-        ended.report.content(),
-        b"status input-too-long\n".as_slice()
-    );
+    for command in ["mean", "seq"] {
+        let input = MemSource::new(bytes_of(alloc, 16_777_217)?, 65_536, Vec::new(alloc));
+        let ended = call_with(alloc, &[command, "p.c"], GREETING, input, &[], &[])?;
+        assert_eq!(rt; ended.status, Status::InputTooLong);
+        assert_eq!(rt; ended.output.content().len(), 0);
+        assert_eq!(rt;
+            ended.report.content(),
+            b"status input-too-long\n".as_slice()
+        );
+    }
     Ok(())
 }
 
@@ -243,12 +247,14 @@ fn an_input_that_fails_is_a_fault(rt: HostRuntime) -> Result<(), Fail> {
     let alloc = rt.alloc();
     let rows: [(&[u64], &[u8]); 3] = [(&[0], b"abcdef"), (&[1], b"def"), (&[2], b"")];
     for (fails, left) in rows {
-        let input = source_with(alloc, b"abcdef", fails)?;
-        let ended = call_with(alloc, &["mean", "p.c"], GREETING, input, &[], &[])?;
-        assert_eq!(rt; ended.status, Status::ReadFault);
-        assert_eq!(rt; ended.input.left(), left);
-        assert_eq!(rt; ended.output.content().len(), 0);
-        assert_eq!(rt; ended.report.content(), b"status read-fault\n".as_slice());
+        for command in ["mean", "seq"] {
+            let input = source_with(alloc, b"abcdef", fails)?;
+            let ended = call_with(alloc, &[command, "p.c"], GREETING, input, &[], &[])?;
+            assert_eq!(rt; ended.status, Status::ReadFault);
+            assert_eq!(rt; ended.input.left(), left);
+            assert_eq!(rt; ended.output.content().len(), 0);
+            assert_eq!(rt; ended.report.content(), b"status read-fault\n".as_slice());
+        }
     }
     Ok(())
 }
@@ -259,7 +265,7 @@ fn an_input_is_left_alone(rt: HostRuntime) -> Result<(), Fail> {
     let alloc = rt.alloc();
     let bad = "int main(void){return x;}";
     let rows: [(&[&str], &str, &[u8]); 6] = [
-        (&["seq", "p.c"], GREETING, b"status done 0\n"),
+        (&["seq", "p.c"], bad, b"status rejected unknown 1 23\n"),
         (&["check", "p.c"], GREETING, b"status fine\n"),
         (&["mean", "p.c"], bad, b"status rejected unknown 1 23\n"),
         (&["mean", "other.c"], GREETING, b"status load-fault\n"),
@@ -280,7 +286,7 @@ fn an_input_is_left_alone(rt: HostRuntime) -> Result<(), Fail> {
 }
 
 #[test]
-fn words_that_ask_for_no_meaning_are_bad(rt: HostRuntime) -> Result<(), Fail> {
+fn words_with_a_faulty_budget_are_bad(rt: HostRuntime) -> Result<(), Fail> {
     let alloc = rt.alloc();
     let rows: [&[&str]; 17] = [
         &["mean"],
@@ -298,7 +304,7 @@ fn words_that_ask_for_no_meaning_are_bad(rt: HostRuntime) -> Result<(), Fail> {
         &["mean", "p.c", "--budget", "1000000000001"],
         &["mean", "p.c", "--budget", "00000000000005"],
         &["mean", "p.c", "--budget", "5", "--budget", "5"],
-        &["seq", "p.c", "--budget", "5"],
+        &["seq", "p.c", "--budget", "0"],
         &["check", "p.c", "--budget", "5"],
     ];
     for (row, words) in rows.iter().enumerate() {
@@ -320,17 +326,21 @@ fn a_budget_is_read(rt: HostRuntime) -> Result<(), Fail> {
         (&["--budget", "1000000000000"], 1_000_000_000_000),
     ];
     for (options, wanted) in rows {
-        let mut words = Vec::new(alloc);
-        words.push(String::from_str(alloc, "mean")?)?;
-        words.push(String::from_str(alloc, "p.c")?)?;
-        for option in options {
-            words.push(String::from_str(alloc, option)?)?;
+        for command in ["seq", "mean"] {
+            let mut words = Vec::new(alloc);
+            words.push(String::from_str(alloc, command)?)?;
+            words.push(String::from_str(alloc, "p.c")?)?;
+            for option in options {
+                words.push(String::from_str(alloc, option)?)?;
+            }
+            let (name, budget) = match command_of(&words) {
+                Some(Command::Seq(name, budget)) if command == "seq" => (name, budget),
+                Some(Command::Mean(name, budget)) if command == "mean" => (name, budget),
+                _ => return Err(Fail::from("the words ask for a run or a meaning")),
+            };
+            assert_eq!(rt; name, "p.c");
+            assert_eq!(rt; budget, wanted);
         }
-        let Some(Command::Mean(name, budget)) = command_of(&words) else {
-            return Err(Fail::from("the words ask for a meaning"));
-        };
-        assert_eq!(rt; name, "p.c");
-        assert_eq!(rt; budget, wanted);
     }
     Ok(())
 }

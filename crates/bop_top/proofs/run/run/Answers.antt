@@ -1,12 +1,11 @@
-use Rattle.std.proofs.Common.{◌≡◌, ◌+◌, ◌-◌, ◌≤◌, Result, Ok, Err, refl, ◌∙◌, subst, arith}
-use Rattle.std.specs.Prelude.{OnOk, OnErr}
-use Rattle.std.proofs.lemmas.Result.{err_from_is_err_and}
+use Rattle.std.proofs.Common.{◌≡◌, ◌+◌, ◌-◌, ◌≤◌, Ok, refl, ◌∙◌, subst, arith}
+use Rattle.bop_ends.specs.declared.fault.Failed.{Failed}
 use Rattle.bop_ends.specs.Ends.{HasCause}
-use Rattle.bop_top.proofs.Running.{count-at_start, stands-at_start, stands-moved, part-moved, advanced, over, state-at_end, sink-at_end}
+use Rattle.bop_top.proofs.Running.{count-at_start, stands-at_start, stands-moved, advanced, broken, finished, over}
 use Rattle.bop_top.proofs.run.run.Goals as goal
 
-pub loop-piece-init : goal.loop-piece-init
-loop-piece-init g c =
+pub loop-count-init : goal.loop-count-init
+loop-count-init g c =
     let none = count-at_start c.args.job.now.program c.args.state.now c.requires.start in
     record {
       stands = stands-at_start c.args.job.now.program c.args.job.now.input c.args.state.now _ c.requires.start;
@@ -14,52 +13,46 @@ loop-piece-init g c =
       owned = c.requires.owned;
       faults = refl;
       count = omega arith;
+      few = omega arith;
     }
 
-pub loop-piece-preserved : goal.loop-piece-preserved
-loop-piece-preserved g c =
-    let i = c.loop-piece.invariant in
+pub loop-count-preserved : goal.loop-count-preserved
+loop-count-preserved g c =
+    let i = c.loop-count.invariant in
+    let ran = c.advance-paused.ensures in
+    let flushed = c.in-Ok.ensures in
+    let more = c.in-Full.ensures.moved refl in
     record {
-      stands = stands-moved _ _ c.loop-piece.state c.advance.new.state _ _ _ _ _ i.stands i.empty c.advance.ensures.least (c.advance.ensures.run i.stands.done) c.in_ok-flush-in-Full.ensures.moved;
-      empty = c.in_ok-flush-in-Full.ensures.empty;
-      owned = c.advance.ensures.kept;
-      faults = c.in_ok-flush-in-Full.ensures.cause.kept ∙ i.faults;
-      count = omega (arith, c.advance.ensures.most, i.count);
+      stands = stands-moved _ _ c.loop-count.state c.advance-paused.new.state _ _ _ _ _ _ _ i.stands i.empty ran.least (ran.run i.stands.done) flushed.moved flushed.count;
+      empty = flushed.empty;
+      owned = ran.kept;
+      faults = flushed.cause.kept ∙ i.faults;
+      count = omega (arith, ran.most, i.count);
+      few = omega (arith, i.few, flushed.most, more);
     }
 
-pub returns-in_err-flush-in-Full-clause-part : goal.returns-in_err-flush-in-Full-clause-part
-returns-in_err-flush-in-Full-clause-part g c =
-    let i = c.loop-piece.invariant in
-    let low : c.advance.new.state.count ≤ c.args.job.now.budget = omega (arith, c.advance.ensures.most, i.count) in
-    let part = part-moved _ _ c.loop-piece.state c.advance.new.state _ _ _ _ _ c.args.job.now.budget i.stands i.empty c.advance.ensures.least low (c.advance.ensures.run i.stands.done) c.in_err-flush-in-Full.ensures.part in
-    let p = err_from_is_err_and c.from_residual.result c.from_residual.ensures.1 in
-    rw p.1 part
+pub returns-in_default-clause-passed : goal.returns-in_default-clause-passed
+returns-in_default-clause-passed g c =
+    let i = c.loop-count.invariant in
+    let ran = c.advance-paused.ensures in
+    let low : c.advance-paused.new.state.count ≤ c.args.job.now.budget = omega (arith, ran.most, i.count) in
+    broken _ _ c.loop-count.state c.advance-paused.new.state _ _ _ _ _ _ _ _ i.stands i.empty ran.least low (ran.run i.stands.done) c.in_default.ensures.part
 
-on_ok : {T E P Q : Type 0} (r : Result T E) → OnOk r P → (P → Q) → OnOk r Q
-on_ok (Ok x) p f = f p
-on_ok (Err e) p f = p
-
-on_err : {T E P Q : Type 0} (r : Result T E) → OnErr r P → (P → Q) → OnErr r Q
-on_err (Ok x) p f = p
-on_err (Err e) p f = f p
-
-pub returns-in_default : goal.returns-in_default
-returns-in_default g c =
-    let i = c.loop-piece.invariant in
+pub returns-in_default-paused : goal.returns-in_default-paused
+returns-in_default-paused g c =
+    let i = c.loop-count.invariant in
     let program = c.args.job.now.program in
     let input = c.args.job.now.input in
-    let s = c.loop-piece.state in
-    let t = c.advance.new.state in
+    let s = c.loop-count.state in
+    let t = c.advance-paused.new.state in
     let budget = c.args.job.now.budget in
-    let flushed = c.flush-in_default.ensures in
-    let low : t.count ≤ budget = omega (arith, c.advance.ensures.most, i.count) in
+    let ran = c.advance-paused.ensures in
+    let flushed = c.in-Ok.ensures in
+    let low : t.count ≤ budget = omega (arith, ran.most, i.count) in
     let all : s.count + (budget - s.count) ≡ budget = omega (arith, i.count) in
-    let ran = c.advance.ensures.run i.stands.done in
-    let here = advanced program input s t i.stands.done _ _ i.empty c.advance.ensures.least i.stands.state ran in
-    let end = over program input t _ c.advance.new.out budget (budget - s.count) s.count c.advance.result here c.advance.ensures.answer c.in_default.not-Full c.advance.ensures.took all low in
+    let here = advanced program input s t i.stands.done _ _ i.empty ran.least i.stands.state (ran.run i.stands.done) in
+    let end = over program input t _ c.advance-paused.new.out budget (budget - s.count) s.count c.advance-paused.result here ran.answer c.in_default-paused.not-Full ran.took all low in
     record {
-      state = on_ok c.flush-in_default.result flushed.moved (λ _. state-at_end program input t _ budget end here);
-      whole = on_ok c.flush-in_default.result flushed.moved (λ moved. sink-at_end program input t _ _ _ i.stands.done c.advance.new.out budget end here i.stands.sink moved);
-      part = on_err c.flush-in_default.result flushed.part (λ part. part-moved program input s t _ _ _ _ _ budget i.stands i.empty c.advance.ensures.least low ran part);
-      cause = subst (λ n. HasCause n (g.K.Sink.faults c.flush-in_default.new.sink) c.flush-in_default.result) i.faults flushed.cause;
+      passed = finished program input s t _ _ _ _ _ budget _ _ i.stands i.empty ran.least low (ran.run i.stands.done) end flushed.moved flushed.count;
+      cause = subst (λ n. HasCause {T = Unit {0}} {E = Failed} n (g.K.Sink.faults c.flush.new.sink) (Ok tt)) i.faults (record { later = flushed.cause.later; failed = tt; kept = flushed.cause.kept });
     }

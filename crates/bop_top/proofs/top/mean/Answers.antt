@@ -1,33 +1,13 @@
-use Rattle.std.proofs.Common.{[], sym, subst}
-use Rattle.std.proofs.KnownBytes.{Appends-nil, Consumes-nil}
-use Rattle.bop_top.specs.Headline.{MeanSays}
-use Rattle.bop_top.proofs.Loads.{unloaded_mean, mean_stands, unloaded_untold}
+use Rattle.std.proofs.Common.{sym, subst}
+use Rattle.bop_top.specs.CommandWords.{Mean}
+use Rattle.bop_top.proofs.Loads.{unloaded, known_file}
 use Rattle.bop_top.proofs.top.mean.Goals as goal
 
-pub returns-in-Err-clause-meant : goal.returns-in-Err-clause-meant
-returns-in-Err-clause-meant g c =
-    let refused = c.in-Err.ensures.refused in
-    rw c.of.ensures (record {
-      taken = [];
-      written = [];
-      takes = Consumes-nil _;
-      writes = Appends-nil _;
-      transfers = mean_stands _ _ _ c.in-Err.outcome refused;
-      says = unloaded_mean _ _ c.args.steps c.in-Err.outcome refused;
-      counted = unloaded_untold _ _ c.in-Err.outcome refused;
-    })
+pub returns-in-Err-clause-done : goal.returns-in-Err-clause-done
+returns-in-Err-clause-done g c =
+    rw c.of.ensures (unloaded _ _ (Mean c.args.name.now c.args.steps) c.in-Err.outcome _ _ c.in-Err.ensures.refused)
 
-pub returns-in-Ok-clause-meant : goal.returns-in-Ok-clause-meant
-returns-in-Ok-clause-meant g c =
-    let meant = rw c.deref.ensures.value at c.mean_text.ensures.meant in
-    record {
-      taken = meant.taken;
-      written = meant.written;
-      takes = meant.takes;
-      writes = meant.writes;
-      transfers = meant.transfers;
-      says = λ tells. subst
-          (λ f. MeanSays c.args.steps c.mean_text.result.outcome f meant.taken meant.written)
-          (sym (c.in-Ok.ensures.text tells)) (meant.says tt);
-      counted = meant.counted;
-    }
+pub returns-in-Ok-clause-done : goal.returns-in-Ok-clause-done
+returns-in-Ok-clause-done g c =
+    let done = rw c.deref.ensures.value at c.mean_text.ensures.done c.args.name.now in
+    known_file (Mean c.args.name.now c.args.steps) _ _ c.in-Ok.text.items _ _ _ _ _ _ c.in-Ok.ensures.text done

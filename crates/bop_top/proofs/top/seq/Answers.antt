@@ -1,19 +1,13 @@
-use Rattle.std.proofs.Common.{[], sym, subst}
-use Rattle.std.proofs.KnownBytes.{Appends-nil}
-use Rattle.bop_top.specs.Headline.{SeqSays}
-use Rattle.bop_top.proofs.Loads.{unloaded_seq, seq_stands}
+use Rattle.std.proofs.Common.{sym, subst}
+use Rattle.bop_top.specs.CommandWords.{Seq}
+use Rattle.bop_top.proofs.Loads.{unloaded, known_file}
 use Rattle.bop_top.proofs.top.seq.Goals as goal
 
-pub returns-in-Err-clause-says : goal.returns-in-Err-clause-says
-returns-in-Err-clause-says g c =
-    let refused = c.in-Err.ensures.refused in
-    ([], Appends-nil _, seq_stands _ _ c.in-Err.outcome refused, λ tells. unloaded_seq _ _ c.in-Err.outcome refused tells)
+pub returns-in-Err-clause-done : goal.returns-in-Err-clause-done
+returns-in-Err-clause-done g c =
+    rw c.of.ensures (unloaded _ _ (Seq c.args.name.now c.args.budget) c.in-Err.outcome _ _ c.in-Err.ensures.refused)
 
-pub returns-in-Ok-clause-says : goal.returns-in-Ok-clause-says
-returns-in-Ok-clause-says g c =
-    let said = rw c.deref.ensures.value at c.seq_text.ensures.says in (
-      said.0,
-      said.1,
-      said.2,
-      λ tells. subst (λ f. SeqSays c.seq_text.result f said.0) (sym (c.in-Ok.ensures.text tells)) said.3,
-    )
+pub returns-in-Ok-clause-done : goal.returns-in-Ok-clause-done
+returns-in-Ok-clause-done g c =
+    let done = rw c.deref.ensures.value at c.seq_text.ensures.done c.args.name.now in
+    known_file (Seq c.args.name.now c.args.budget) _ _ c.in-Ok.text.items _ _ _ _ _ _ c.in-Ok.ensures.text done
