@@ -7,3 +7,4 @@ mod mem_source;
 mod real_shelf;
 mod real_sink;
 mod real_source;
+mod words;

@@ -1,1 +1,2 @@
+pub mod BitSetLemmas
 pub mod FieldLemmas

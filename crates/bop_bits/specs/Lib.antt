@@ -1,3 +1,5 @@
+pub mod BitSets
 pub mod Bits
 pub mod Class
 pub mod MemoryNumbers
+pub mod Pages

@@ -7,8 +7,9 @@ use Rattle.bop_top.specs.declared.ending.Figures.{Figures}
 use Rattle.bop_top.specs.declared.outcome.Outcome.{Outcome}
 use Rattle.bop_top.specs.declared.outcome.Outcome.TheVariants as outcome
 use Rattle.c_token.specs.declared.limits.TheConstants.{TEXT_BYTES}
+use Rattle.bop_words.specs.WordRequests.{Request, Seq, Check, Mean}
+use Rattle.bop_top.specs.BuiltCommands.{IsBuilt}
 use Rattle.bop_top.specs.CommandTransfers.{CanEnd, Moves, Tells, no_figures}
-use Rattle.bop_top.specs.CommandWords.{Request, Seq, Check, Mean}
 use Rattle.bop_top.specs.Headline.{HasDone, Says}
 use Rattle.bop_top.specs.TextSays.{IsTooLong, IsUnloaded}
 
@@ -28,38 +29,41 @@ longer_file (Some bytes) most text front long =
     (bytes, refl, omega (arith, length-take most bytes, ap length front))
 
 module _ (told : Type 0) (file : Option (List ℕ)) where
-  unloaded_says : (request : Request) (o : Outcome) → IsUnloaded o told file → told
-      → Says request o no_figures file [] []
-  unloaded_says (Seq name budget) outcome.LoadFault h here = tt
-  unloaded_says (Seq name budget) outcome.OutOfMemory h here = tt
-  unloaded_says (Seq name budget) outcome.ProgramTooLong h here = h here
-  unloaded_says (Seq name budget) _ h here = absurd h
-  unloaded_says (Check name) outcome.LoadFault h here = tt
-  unloaded_says (Check name) outcome.OutOfMemory h here = tt
-  unloaded_says (Check name) outcome.ProgramTooLong h here = h here
-  unloaded_says (Check name) _ h here = absurd h
-  unloaded_says (Mean name steps) outcome.LoadFault h here = tt
-  unloaded_says (Mean name steps) outcome.OutOfMemory h here = tt
-  unloaded_says (Mean name steps) outcome.ProgramTooLong h here = h here
-  unloaded_says (Mean name steps) _ h here = absurd h
+  unloaded_says : (request : Request) (o : Outcome) → IsBuilt request → IsUnloaded o told file
+      → told → Says request o no_figures file [] []
+  unloaded_says (Seq name budget) outcome.LoadFault built h here = tt
+  unloaded_says (Seq name budget) outcome.OutOfMemory built h here = tt
+  unloaded_says (Seq name budget) outcome.ProgramTooLong built h here = h here
+  unloaded_says (Seq name budget) _ built h here = absurd h
+  unloaded_says (Check name) outcome.LoadFault built h here = tt
+  unloaded_says (Check name) outcome.OutOfMemory built h here = tt
+  unloaded_says (Check name) outcome.ProgramTooLong built h here = h here
+  unloaded_says (Check name) _ built h here = absurd h
+  unloaded_says (Mean name steps) outcome.LoadFault built h here = tt
+  unloaded_says (Mean name steps) outcome.OutOfMemory built h here = tt
+  unloaded_says (Mean name steps) outcome.ProgramTooLong built h here = h here
+  unloaded_says (Mean name steps) _ built h here = absurd h
+  unloaded_says _ o built h here = absurd built
 
-  unloaded_tells : (request : Request) (o : Outcome) → IsUnloaded o told file
+  unloaded_tells : (request : Request) (o : Outcome) → IsBuilt request → IsUnloaded o told file
       → Tells request o 0 no_figures
-  unloaded_tells (Seq name budget) outcome.LoadFault h = refl
-  unloaded_tells (Seq name budget) outcome.OutOfMemory h = refl
-  unloaded_tells (Seq name budget) outcome.ProgramTooLong h = refl
-  unloaded_tells (Seq name budget) _ h = absurd h
-  unloaded_tells (Check name) o h = refl
-  unloaded_tells (Mean name steps) outcome.LoadFault h = refl
-  unloaded_tells (Mean name steps) outcome.OutOfMemory h = refl
-  unloaded_tells (Mean name steps) outcome.ProgramTooLong h = refl
-  unloaded_tells (Mean name steps) _ h = absurd h
+  unloaded_tells (Seq name budget) outcome.LoadFault built h = refl
+  unloaded_tells (Seq name budget) outcome.OutOfMemory built h = refl
+  unloaded_tells (Seq name budget) outcome.ProgramTooLong built h = refl
+  unloaded_tells (Seq name budget) _ built h = absurd h
+  unloaded_tells (Check name) o built h = refl
+  unloaded_tells (Mean name steps) outcome.LoadFault built h = refl
+  unloaded_tells (Mean name steps) outcome.OutOfMemory built h = refl
+  unloaded_tells (Mean name steps) outcome.ProgramTooLong built h = refl
+  unloaded_tells (Mean name steps) _ built h = absurd h
+  unloaded_tells _ o built h = absurd built
 
-  unloaded_ends : (request : Request) (o : Outcome) → IsUnloaded o told file → CanEnd request o
-  unloaded_ends request outcome.LoadFault h = tt
-  unloaded_ends request outcome.OutOfMemory h = tt
-  unloaded_ends request outcome.ProgramTooLong h = tt
-  unloaded_ends request _ h = absurd h
+  unloaded_ends : (request : Request) (o : Outcome) → IsBuilt request → IsUnloaded o told file
+      → CanEnd request o
+  unloaded_ends request outcome.LoadFault built h = built
+  unloaded_ends request outcome.OutOfMemory built h = built
+  unloaded_ends request outcome.ProgramTooLong built h = built
+  unloaded_ends request _ built h = absurd h
 
   unloaded_moves : (o : Outcome) (left : Option (List ℕ)) → IsUnloaded o told file
       → Moves o [] left []
@@ -70,19 +74,19 @@ module _ (told : Type 0) (file : Option (List ℕ)) where
 
   -- nothing is taken then, nor written, nor told
   pub unloaded : (request : Request) (o : Outcome) (left content : Option (List ℕ))
-      → IsUnloaded o told file
+      → IsBuilt request → IsUnloaded o told file
       → HasDone request told file o no_figures left left content content
-  unloaded request o left content h = record {
+  unloaded request o left content built h = record {
     taken = [];
     written = [];
     takes = Consumes-nil left;
     writes = Appends-nil content;
     transfers = record {
-      can = unloaded_ends request o h;
+      can = unloaded_ends request o built h;
       moves = unloaded_moves o left h;
-      tells = unloaded_tells request o h;
+      tells = unloaded_tells request o built h;
     };
-    says = unloaded_says request o h;
+    says = unloaded_says request o built h;
   }
 
 -- where the shelf tells the file, it is the text

@@ -7,7 +7,7 @@ use Rattle.bop_top.specs.declared.ending.Figures.{Figures}
 use Rattle.bop_top.specs.declared.outcome.Outcome.{Outcome}
 use Rattle.bop_top.specs.declared.outcome.Outcome.TheVariants as outcome
 use Rattle.bop_top.specs.CommandTransfers.{CanEnd, Moves, Tells, bytes_alone}
-use Rattle.bop_top.specs.CommandWords.{Mean}
+use Rattle.bop_words.specs.WordRequests.{Mean}
 use Rattle.bop_top.specs.Headline.{HasDone}
 use Rattle.bop_top.specs.MeanSays.{Means, Meant, MeanSays, Puts}
 use Rattle.bop_top.specs.TextSays.{IsInput}

@@ -14,8 +14,9 @@ use Rattle.low_link.specs.Refused.{IsRejection}
 use Rattle.rv_step.specs.declared.limits.TheConstants.{INPUT_BYTES}
 use Rattle.bop_top.specs.declared.outcome.Outcome.{Outcome}
 use Rattle.bop_top.specs.declared.outcome.Outcome.TheVariants as outcome
+use Rattle.bop_words.specs.WordRequests.{Request, Seq, Check, Mean}
+use Rattle.bop_top.specs.BuiltCommands.{ReadsInput}
 use Rattle.bop_top.specs.CommandTransfers.{CanEnd, Moves, Tells, Transfers, no_figures}
-use Rattle.bop_top.specs.CommandWords.{Request, Seq, Check, Mean, IsCheck}
 use Rattle.bop_top.specs.Headline.{HasDone, Says}
 use Rattle.bop_top.specs.TextSays.{FileSays, IsFine, IsUnread, IsUnready, refused_outcome}
 
@@ -75,14 +76,14 @@ says (Seq name budget) o text taken fits (rejected refused h i e) = (text, refl,
 says (Seq name budget) o text taken fits (too_long fine long) = (text, refl, fits, fine)
 says (Seq name budget) o text taken fits (unread fine) = (text, refl, fits, fine)
 says (Seq name budget) o text taken fits no_memory = tt
-says (Check name) o text taken fits (rejected refused h i e) = (text, refl, fits, h)
-says (Check name) o text taken fits (too_long fine long) = (text, refl, fits, fine)
-says (Check name) o text taken fits (unread fine) = (text, refl, fits, fine)
-says (Check name) o text taken fits no_memory = tt
 says (Mean name steps) o text taken fits (rejected refused h i e) = (text, refl, fits, h)
 says (Mean name steps) o text taken fits (too_long fine long) = (text, refl, fits, fine)
 says (Mean name steps) o text taken fits (unread fine) = (text, refl, fits, fine)
 says (Mean name steps) o text taken fits no_memory = tt
+says request o text taken fits (rejected refused h i e) = (text, refl, fits, h)
+says request o text taken fits (too_long fine long) = (text, refl, fits, fine)
+says request o text taken fits (unread fine) = (text, refl, fits, fine)
+says request o text taken fits no_memory = tt
 
 -- nothing is written, nor told
 tells : (request : Request) (o : Outcome) (text taken : List ℕ) → Unready text taken o
@@ -91,11 +92,11 @@ tells (Seq name budget) o text taken (rejected refused h i e) = refl
 tells (Seq name budget) o text taken (too_long fine long) = refl
 tells (Seq name budget) o text taken (unread fine) = refl
 tells (Seq name budget) o text taken no_memory = refl
-tells (Check name) o text taken h = refl
 tells (Mean name steps) o text taken (rejected refused h i e) = refl
 tells (Mean name steps) o text taken (too_long fine long) = refl
 tells (Mean name steps) o text taken (unread fine) = refl
 tells (Mean name steps) o text taken no_memory = refl
+tells request o text taken h = refl
 
 moves : (o : Outcome) (text taken : List ℕ) (left : Option (List ℕ)) → Unready text taken o
     → Moves o taken left []
@@ -105,17 +106,17 @@ moves o text taken left (unread fine) = refl
 moves o text taken left no_memory = refl
 
 -- a command that reads the input can end so
-can_end : (request : Request) (o : Outcome) (text taken : List ℕ) → (IsCheck request → ⊥)
+can_end : (request : Request) (o : Outcome) (text taken : List ℕ) → ReadsInput request
     → Unready text taken o → CanEnd request o
-can_end (Check name) o text taken reads h = absurd (reads tt)
-can_end (Seq name budget) o text taken reads (rejected refused h i e) = i
+can_end (Seq name budget) o text taken reads (rejected refused h i e) = (tt, i)
 can_end (Seq name budget) o text taken reads (too_long fine long) = tt
 can_end (Seq name budget) o text taken reads (unread fine) = tt
 can_end (Seq name budget) o text taken reads no_memory = tt
-can_end (Mean name steps) o text taken reads (rejected refused h i e) = i
+can_end (Mean name steps) o text taken reads (rejected refused h i e) = (tt, i)
 can_end (Mean name steps) o text taken reads (too_long fine long) = tt
 can_end (Mean name steps) o text taken reads (unread fine) = tt
 can_end (Mean name steps) o text taken reads no_memory = tt
+can_end _ o text taken reads h = absurd reads
 
 ended : (request : Request) (told : Type 0) (o : Outcome) (text taken : List ℕ)
     (input left content : Option (List ℕ)) → length text ≤ TEXT_BYTES → CanEnd request o
@@ -131,7 +132,7 @@ ended request told o text taken input left content fits can h takes = record {
 }
 
 pub unready_done : (request : Request) (told : Type 0) (o : Outcome) (text taken : List ℕ)
-    (input left content : Option (List ℕ)) → length text ≤ TEXT_BYTES → (IsCheck request → ⊥)
+    (input left content : Option (List ℕ)) → length text ≤ TEXT_BYTES → ReadsInput request
     → IsUnready o text taken → Consumes input left taken
     → HasDone request told (Some text) o no_figures input left content content
 unready_done request told o text taken input left content fits reads h takes =
@@ -140,11 +141,11 @@ unready_done request told o text taken input left content fits reads h takes =
 
 refused_can : (name text : List ℕ) (refused : Refused) → Refuses text refused
     → CanEnd (Check name) (refused_outcome refused)
-refused_can name text (r.Token fault) h = tt
-refused_can name text (r.Parse fault) h = tt
-refused_can name text (r.Check fault) h = tt
-refused_can name text (r.Layout fault) h = tt
-refused_can name text r.CodeTooLong h = tt
+refused_can name text (r.Token fault) h = (tt, tt)
+refused_can name text (r.Parse fault) h = (tt, tt)
+refused_can name text (r.Check fault) h = (tt, tt)
+refused_can name text (r.Layout fault) h = (tt, tt)
+refused_can name text r.CodeTooLong h = (tt, tt)
 refused_can name text r.OutOfMemory h = tt
 
 -- a check of a text that is refused

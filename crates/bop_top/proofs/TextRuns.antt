@@ -20,7 +20,7 @@ use Rattle.bop_top.specs.declared.ending.Figures.{Figures}
 use Rattle.bop_top.specs.declared.outcome.Outcome.{Outcome}
 use Rattle.bop_top.specs.declared.outcome.Outcome.TheVariants as outcome
 use Rattle.bop_top.specs.CommandTransfers.{CanEnd, Moves, Tells, TellsRun}
-use Rattle.bop_top.specs.CommandWords.{Seq}
+use Rattle.bop_words.specs.WordRequests.{Seq}
 use Rattle.bop_top.specs.Headline.{HasDone}
 use Rattle.bop_top.specs.SeqSays.{Ran, HasRun, HasBroken, SeqSays, count_of, run_outcome, stop_outcome}
 use Rattle.bop_top.specs.TextSays.{IsInput}

@@ -1,20 +1,22 @@
 -- What the outcome of a command says of the bytes that it takes and writes and of what it tells of
 -- them, whatever the file.
 use Rattle.std.specs.Prelude.{◌≡◌, ◌≤◌, ◌<◌, length, ℕ, List, [], Option, Some, None, IsSome}
+use Rattle.bop_words.specs.WordRequests.{Request, Seq, Check, Mean}
 use Rattle.low_link.specs.Refused.{IsRejection}
 use Rattle.rv_step.specs.declared.limits.TheConstants.{INPUT_BYTES}
 use Rattle.bop_top.specs.declared.ending.Figures.{Figures}
 use Rattle.bop_top.specs.declared.outcome.Outcome.{Outcome}
-use Rattle.bop_top.specs.declared.outcome.Outcome.TheVariants.{Done, Fine, LoadFault, ProgramTooLong, Rejected, ReadFault, InputTooLong, Budget, Trapped, StackFull, Undefined, MoreSteps, WriteFault, OutOfMemory}
-use Rattle.bop_top.specs.CommandWords.{Request, Seq, Check, Mean}
+use Rattle.bop_top.specs.declared.outcome.Outcome.TheVariants.{Done, Fine, LoadFault, ProgramTooLong, Rejected, ReadFault, InputTooLong, Budget, Trapped, StackFull, Undefined, MoreSteps, WriteFault, OutOfMemory, NotYetBuilt}
+use Rattle.bop_top.specs.BuiltCommands.{IsBuilt}
 use Rattle.bop_top.specs.TextSays.{IsInput}
 
 -- the outcomes with which a request can end
 abbrev pub CanEnd : Request → Outcome → Type 0
-CanEnd request LoadFault = Unit {0}
-CanEnd request ProgramTooLong = Unit {0}
-CanEnd request (Rejected refused) = IsRejection refused
-CanEnd request OutOfMemory = Unit {0}
+CanEnd request NotYetBuilt = IsBuilt request → ⊥
+CanEnd request LoadFault = IsBuilt request
+CanEnd request ProgramTooLong = IsBuilt request
+CanEnd request (Rejected refused) = IsBuilt request × IsRejection refused
+CanEnd request OutOfMemory = IsBuilt request
 CanEnd (Check name) Fine = Unit {0}
 CanEnd (Seq name budget) ReadFault = Unit {0}
 CanEnd (Seq name budget) InputTooLong = Unit {0}
@@ -36,6 +38,7 @@ CanEnd request outcome = ⊥
 -- nothing is taken before the text is read, and nothing written before the input is
 abbrev pub Moves : Outcome → (taken : List ℕ) → (left : Option (List ℕ)) → (written : List ℕ)
     → Type 0
+Moves NotYetBuilt taken left written = (taken ≡ []) × (written ≡ [])
 Moves LoadFault taken left written = (taken ≡ []) × (written ≡ [])
 Moves ProgramTooLong taken left written = (taken ≡ []) × (written ≡ [])
 Moves (Rejected refused) taken left written = (taken ≡ []) × (written ≡ [])

@@ -4,10 +4,11 @@ use Rattle.std.specs.Io.KnownBytes.{Appends, Consumes}
 use Rattle.bop_top.specs.declared.ending.Figures.{Figures}
 use Rattle.bop_top.specs.declared.outcome.Outcome.{Outcome}
 use Rattle.bop_top.specs.declared.status.Status.{Status}
-use Rattle.bop_top.specs.declared.status.Status.TheVariants.{BadWords}
+use Rattle.bop_top.specs.declared.status.Status.TheVariants.{BadWords, OutOfMemory}
+use Rattle.bop_words.specs.WordRequests.{Request, Seq, Mean, AskNothing, IsRequest, program_of}
+use Rattle.bop_top.specs.BuiltCommands.{file_named}
 use Rattle.bop_top.specs.CommandFaults.{Faults, Counts}
 use Rattle.bop_top.specs.CommandTransfers.{Transfers, no_figures}
-use Rattle.bop_top.specs.CommandWords.{Request, Seq, Check, Mean, IsRequest, AsksNothing, name_of}
 use Rattle.bop_top.specs.MeanSays.{MeanSays}
 use Rattle.bop_top.specs.Report.{Reported}
 use Rattle.bop_top.specs.SeqSays.{SeqSays}
@@ -19,8 +20,8 @@ abbrev pub Says : Request → Outcome → Figures → (file : Option (List ℕ))
     → Type 0
 Says (Seq name budget) outcome told file taken written =
     SeqSays budget outcome told.steps file taken written
-Says (Check name) outcome told file taken written = FileSays outcome file
 Says (Mean name steps) outcome told file taken written = MeanSays steps outcome file taken written
+Says request outcome told file taken written = FileSays outcome file
 
 -- the ends of a command at one moment: what the shelf, the input and the output tell, and how often
 -- each has failed
@@ -63,39 +64,52 @@ pub record HasDone (request : Request) (told_file : Type 0) (file : Option (List
 -- the command of a request has ended with this outcome: what it has done, and which end has failed
 pub record Ended (request : Request) (old new : Ends) (outcome : Outcome) (told : Figures)
     : Type 0 where
-  pub done : HasDone request (IsTrue old.tells) (old.file (name_of request)) outcome told old.input
-      new.input old.output new.output
+  pub done : HasDone request (IsTrue old.tells) (file_named old.file (program_of request)) outcome
+      told old.input new.input old.output new.output
   pub counts : Counts outcome old.faults new.faults
-
--- the words ask for nothing, and nothing is done: no byte is taken or written, and no end fails
-pub record DoesNothing (words : List (List ℕ)) (old new : Ends) (inner : Status)
-    (told : Figures) : Type 0 where
-  pub asks : AsksNothing words
-  pub status : inner ≡ BadWords
-  pub takes : Consumes old.input new.input []
-  pub writes : Appends old.output new.output []
-  pub counts : new.faults ≡ old.faults
-  pub untold : told ≡ no_figures
-
--- the words are this request, and its command has ended
-pub record DoesRequest (words : List (List ℕ)) (old new : Ends) (inner : Status)
-    (told : Figures) : Type 0 where
-  pub request : Request
-  pub asked : IsRequest words request
-  pub outcome : Outcome
-  pub status : inner ≡ status_of outcome
-  pub ended : Ended request old new outcome told
 
 -- the report at one moment
 pub record Reporting : Type 0 where
   pub content : Option (List ℕ)
   pub faults : ℕ
 
--- the course of a call: what its words ask for, if anything, is done and ends with the inner status,
--- which is then reported
-pub record Course (words : List (List ℕ)) (old new : Ends) (before after : Reporting)
+-- why no command is begun: the words ask for nothing, or they ask for something, and there was no
+-- memory for the names in them
+abbrev pub IsCause : Status → List (List ℕ) → Type 0
+IsCause BadWords words = AskNothing words
+IsCause OutOfMemory words = AskNothing words → ⊥
+IsCause _ words = ⊥
+
+-- the words are turned away, and nothing is done: no byte is taken or written, and no end fails; that
+-- is reported
+pub record TurnsAway (words : List (List ℕ)) (old new : Ends) (before after : Reporting)
     (final : Status) : Type 0 where
   pub inner : Status
+  pub cause : IsCause inner words
+  pub takes : Consumes old.input new.input []
+  pub writes : Appends old.output new.output []
+  pub counts : new.faults ≡ old.faults
+  pub reported : Reported inner final no_figures before.content after.content before.faults
+      after.faults
+
+-- a request is served: its command has ended, and that is reported
+pub record Serves (request : Request) (old new : Ends) (before after : Reporting)
+    (final : Status) : Type 0 where
+  pub outcome : Outcome
   pub told : Figures
-  pub command : DoesNothing words old new inner told ⊎ DoesRequest words old new inner told
-  pub reported : Reported inner final told before.content after.content before.faults after.faults
+  pub ended : Ended request old new outcome told
+  pub reported : Reported (status_of outcome) final told before.content after.content before.faults
+      after.faults
+
+-- the words are a request, and it is served
+pub record ServesWords (words : List (List ℕ)) (old new : Ends) (before after : Reporting)
+    (final : Status) : Type 0 where
+  pub request : Request
+  pub asked : IsRequest words request
+  pub serves : Serves request old new before after final
+
+-- the course of a call: its words are turned away, or what they ask for is served
+abbrev pub Course : (words : List (List ℕ)) → (old new : Ends) → (before after : Reporting)
+    → (final : Status) → Type 0
+Course words old new before after final =
+    TurnsAway words old new before after final ⊎ ServesWords words old new before after final

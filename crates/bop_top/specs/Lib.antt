@@ -1,6 +1,6 @@
+pub mod BuiltCommands
 pub mod CommandFaults
 pub mod CommandTransfers
-pub mod CommandWords
 pub mod Headline
 pub mod MeanSays
 pub mod Report

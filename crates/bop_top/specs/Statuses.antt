@@ -5,7 +5,7 @@ use Rattle.bop_top.specs.declared.outcome.Outcome.TheVariants as outcome
 use Rattle.bop_top.specs.declared.status.End.{End}
 use Rattle.bop_top.specs.declared.status.End.TheVariants.{Shelf, Input, Output, Report}
 use Rattle.bop_top.specs.declared.status.Status.{Status}
-use Rattle.bop_top.specs.declared.status.Status.TheVariants.{Done, Fine, BadWords, LoadFault, ProgramTooLong, Rejected, ReadFault, InputTooLong, Budget, Trapped, StackFull, Undefined, MoreSteps, WriteFault, ReportFault, OutOfMemory}
+use Rattle.bop_top.specs.declared.status.Status.TheVariants.{Done, Fine, BadWords, LoadFault, ProgramTooLong, Rejected, ReadFault, InputTooLong, Budget, Trapped, StackFull, Undefined, MoreSteps, WriteFault, ReportFault, OutOfMemory, NotYetBuilt}
 
 -- its name in the report, the status of the process, whether what was asked for was answered, and
 -- the end that has failed
@@ -36,6 +36,7 @@ row_of MoreSteps = row (codes "more-steps") 13 true None
 row_of WriteFault = row (codes "write-fault") 14 false (Some Output)
 row_of ReportFault = row (codes "report-fault") 15 false (Some Report)
 row_of OutOfMemory = row (codes "out-of-memory") 18 false None
+row_of NotYetBuilt = row (codes "not-yet-built") 19 false None
 
 -- the status with which a command ends
 abbrev pub status_of : Outcome → Status
@@ -53,3 +54,4 @@ status_of (outcome.Undefined act at) = Undefined act at
 status_of outcome.MoreSteps = MoreSteps
 status_of outcome.WriteFault = WriteFault
 status_of outcome.OutOfMemory = OutOfMemory
+status_of outcome.NotYetBuilt = NotYetBuilt

@@ -3,7 +3,6 @@
 
 mod ending;
 mod input;
-mod laws;
 mod meaning;
 mod outcome;
 mod report;
@@ -11,11 +10,9 @@ mod run;
 mod sequential;
 mod status;
 mod top;
-mod words;
 
-pub use laws::{budgets_in_numbers, one_request_of_words};
 pub use status::Status;
-pub use top::bop_main;
+pub use top::{bop_main, bop_plain};
 
 #[cfg(test)]
 mod tests;

@@ -4,11 +4,11 @@ ghost use Rattle.std.specs.Prelude.{◌≡◌, ◌≤◌, ℕ, List, Some, ⊤, 
 ghost use Rattle.std.specs.Io.KnownBytes.{Appends, Consumes};
 ghost use Rattle.byte_lists.specs.Content.{AppendsPrefix};
 ghost use Rattle.bop_ends.specs.Ends.{HasCause};
+ghost use Rattle.bop_words.specs.WordRequests.{Mean};
 ghost use Rattle.c_meaning.specs.Answer.{meaning_of};
 ghost use Rattle.c_semantics.specs.Outcome.{output_of};
 ghost use Rattle.bop_top.specs.CommandFaults.{Counts};
 ghost use Rattle.bop_top.specs.CommandTransfers.{bytes_alone};
-ghost use Rattle.bop_top.specs.CommandWords.{Mean};
 ghost use Rattle.bop_top.specs.Headline.{HasDone};
 ghost use Rattle.bop_top.specs.MeanSays.{Means, meaning_outcome};
 ghost use Rattle.bop_top.specs.TextSays.{IsInput, IsUnready};

@@ -27,6 +27,7 @@ pub enum Outcome {
     MoreSteps,
     WriteFault,
     OutOfMemory,
+    NotYetBuilt,
 }
 
 impl Outcome {
@@ -49,6 +50,7 @@ impl Outcome {
             Outcome::MoreSteps => Status::MoreSteps,
             Outcome::WriteFault => Status::WriteFault,
             Outcome::OutOfMemory => Status::OutOfMemory,
+            Outcome::NotYetBuilt => Status::NotYetBuilt,
         }
     }
 }

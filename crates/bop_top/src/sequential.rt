@@ -4,12 +4,13 @@ ghost use Rattle.std.specs.Prelude.{◌≡◌, ◌≤◌, ℕ, List, Some, ⊤, 
 ghost use Rattle.std.specs.Io.KnownBytes.{Consumes};
 ghost use Rattle.c_token.specs.declared.limits.TheConstants.{TEXT_BYTES};
 ghost use Rattle.bop_ends.specs.Ends.{HasCause};
+ghost use Rattle.bop_words.specs.RequestBounds.{IsBudget};
+ghost use Rattle.bop_words.specs.WordRequests.{Seq};
 ghost use Rattle.bop_top.specs.CommandFaults.{Counts};
-ghost use Rattle.bop_top.specs.CommandWords.{Seq};
 ghost use Rattle.bop_top.specs.Headline.{HasDone};
 ghost use Rattle.bop_top.specs.SeqSays.{run_outcome, stop_outcome};
 ghost use Rattle.bop_top.specs.TextSays.{IsInput, IsUnready};
-ghost use Rattle.bop_top.specs.private.Prepared.{IsBounded, IsJobOf};
+ghost use Rattle.bop_top.specs.private.Prepared.{IsJobOf};
 
 use crate::ending::{Ending, Figures};
 use crate::input::read_input;
@@ -30,7 +31,7 @@ pub(crate) fn seq_text<S: Source, K: Sink>(
     output: &mut K,
 ) -> Ending
     requires text { length text.now ≤ TEXT_BYTES }
-    requires budget { IsBounded budget }
+    requires budget { IsBudget budget }
     ensures done { (name : List ℕ) → HasDone (Seq name budget) ⊤ (Some text.now) result.outcome
         result.told (S.left input.old) (S.left input.new) (K.content output.old)
         (K.content output.new) }
@@ -60,7 +61,7 @@ fn prepared<S: Source>(
     input: &mut S,
 ) -> Result<Job, Outcome>
     requires text { length text.now ≤ TEXT_BYTES }
-    requires budget { IsBounded budget }
+    requires budget { IsBudget budget }
     ensures job { IfOk result
         (λ job. (taken : List ℕ) × Consumes (S.left input.old) (S.left input.new) taken
         × IsJobOf text.now taken budget job × IsInput taken (S.left input.new)) }

@@ -42,6 +42,8 @@ pub enum Status {
     ReportFault,
     /// There was no memory.
     OutOfMemory,
+    /// The command isn't built yet.
+    NotYetBuilt,
 }
 
 /// An end of a call.
@@ -108,6 +110,7 @@ impl Status {
             Status::WriteFault => Row::new("write-fault", 14, false, Some(End::Output)),
             Status::ReportFault => Row::new("report-fault", 15, false, Some(End::Report)),
             Status::OutOfMemory => Row::new("out-of-memory", 18, false, None),
+            Status::NotYetBuilt => Row::new("not-yet-built", 19, false, None),
         }
     }
 

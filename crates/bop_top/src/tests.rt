@@ -92,7 +92,8 @@ fn call_with(
 fn faults_and_faulty_words_are_told(rt: HostRuntime) -> Result<(), Fail> {
     let alloc = rt.alloc();
     let full: &[(u64, usize)] = &[(0, 0)];
-    let rows: [(&[&str], &[(u64, usize)], Status, &[u8]); 8] = [
+    let unbuilt = b"status not-yet-built\n".as_slice();
+    let rows: [(&[&str], &[(u64, usize)], Status, &[u8]); 13] = [
         (
             &["seq", "other.c"],
             &[],
@@ -125,6 +126,31 @@ fn faults_and_faulty_words_are_told(rt: HostRuntime) -> Result<(), Fail> {
             &[],
             Status::BadWords,
             b"status bad-words\n",
+        ),
+        (
+            &["run", "p.c", "--workers", "17"],
+            &[],
+            Status::BadWords,
+            b"status bad-words\n",
+        ),
+        (&["run", "other.c"], full, Status::NotYetBuilt, unbuilt),
+        (
+            &["demo", "--seed", "0", "--regions", "1"],
+            full,
+            Status::NotYetBuilt,
+            unbuilt,
+        ),
+        (
+            &["replay", "other.c", "--schedule", "other.s"],
+            full,
+            Status::NotYetBuilt,
+            unbuilt,
+        ),
+        (
+            &["source", "--seed", "0", "--regions", "1"],
+            full,
+            Status::NotYetBuilt,
+            unbuilt,
         ),
     ];
     for (row, (words, fails, wanted, line)) in rows.iter().enumerate() {
@@ -172,7 +198,7 @@ fn each_status_has_its_code_and_its_line(rt: HostRuntime) -> Result<(), Fail> {
     let too_large = Status::Rejected(Refused::Layout(LayoutFault::DataTooLarge));
     let too_long = Status::Rejected(Refused::CodeTooLong);
     let divided = Status::Undefined(Undefined::Divide, place);
-    let rows: [(Status, u8, &str, bool); 19] = [
+    let rows: [(Status, u8, &str, bool); 20] = [
         (Status::Done(0), 0, "done 0", true),
         (Status::Done(-1), 0, "done -1", true),
         (Status::Done(2147483647), 0, "done 2147483647", true),
@@ -192,6 +218,7 @@ fn each_status_has_its_code_and_its_line(rt: HostRuntime) -> Result<(), Fail> {
         (Status::MoreSteps, 13, "more-steps", true),
         (Status::WriteFault, 14, "write-fault", false),
         (Status::OutOfMemory, 18, "out-of-memory", false),
+        (Status::NotYetBuilt, 19, "not-yet-built", false),
     ];
     for (status, code, said, is_replaced) in rows {
         let unreported = if is_replaced {

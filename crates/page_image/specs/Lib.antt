@@ -1,1 +1,2 @@
 pub mod OwnedBytes
+pub mod PutBytes

@@ -1,10 +1,12 @@
 //! Images.
 
-ghost use Rattle.std.specs.Prelude.{◌≡◌, ◌≤◌, ◌-◌, ◌++◌, length, replicate, true, IfOk, OnOk, OnErr, IsOk};
-ghost use Rattle.bop_bits.specs.declared.map.TheConstants.{MEMORY_BYTES};
+ghost use Rattle.std.specs.Prelude.{◌≡◌, ◌≤◌, ◌<◌, ◌-◌, ◌++◌, ℕ, length, replicate, slice_index, true, false, IfOk, OnOk, OnErr, IsOk};
+ghost use Rattle.bop_bits.specs.declared.map.TheConstants.{MEMORY_BYTES, PAGES};
 ghost use Rattle.bop_bits.specs.MemoryNumbers.{number_at, with_number, Fits};
+ghost use Rattle.bop_bits.specs.Pages.{page_at};
+ghost use Rattle.page_image.specs.PutBytes.{byte_put};
 
-use bop_bits::{DATA_FROM, MEMORY_BYTES};
+use bop_bits::{ByteMask, DATA_FROM, MEMORY_BYTES, PAGE_BYTES};
 use bop_ends::OutOfMemory;
 use std::alloc::Global;
 use std::marker::Model;
@@ -68,6 +70,43 @@ impl Image {
         Ok(())
     }
 
+    /// An equal image, which isn't owned. What is stored to one of the two later doesn't change
+    /// the other.
+    pub fn fork(&mut self) -> Result<Image, OutOfMemory>
+        ensures forked { IfOk result (λ image. image ≡ record self.old { owned = false }) }
+        ensures kept { self.new ≡ self.old }
+    {
+        let bytes = self.bytes.clone()?;
+        Ok(Image {
+            bytes,
+            owned: false,
+        })
+    }
+
+    /// The bytes of a page.
+    pub fn page(&self, n: u32) -> &[u8; 4096]
+        requires { n < PAGES }
+        ensures { result.now ≡ page_at self.now.bytes n }
+    {
+        let from = (n * PAGE_BYTES) as usize;
+        match self.bytes[from..].split_first_chunk() {
+            Some((page, _)) => page,
+            None => unreachable!(),
+        }
+    }
+
+    /// Puts some bytes of another page at their places in a page. It takes no memory.
+    pub fn put_bytes(&mut self, n: u32, from: &[u8; 4096], which: &ByteMask)
+        requires page { n < PAGES }
+        requires owned { self.old.owned ≡ true }
+        ensures put { (i : ℕ) → slice_index self.new.bytes i
+            ≡ byte_put self.old.bytes n from.now which.now.words i }
+        ensures whole { length self.new.bytes ≡ length self.old.bytes }
+        ensures kept { self.new.owned ≡ self.old.owned }
+    {
+        put_page_bytes(self.bytes.as_mut_slice(), n, from, which);
+    }
+
     /// Whether stores take no memory.
     pub fn is_owned(&self) -> bool
         ensures { result ≡ self.now.owned }
@@ -111,6 +150,21 @@ fn store_bytes(bytes: &mut [u8], at: u32, size: u32, value: u32)
             bytes[i + 1] = (value / 256 % 256) as u8;
             bytes[i + 2] = (value / 256 / 256 % 256) as u8;
             bytes[i + 3] = (value / 256 / 256 / 256 % 256) as u8;
+        }
+    }
+}
+
+fn put_page_bytes(bytes: &mut [u8], n: u32, from: &[u8; 4096], which: &ByteMask)
+    requires page { n < PAGES }
+    requires whole { length bytes.old ≡ MEMORY_BYTES }
+    ensures put { (i : ℕ) → slice_index bytes.new i
+        ≡ byte_put bytes.old n from.now which.now.words i }
+    ensures whole { length bytes.new ≡ length bytes.old }
+{
+    let first = n * PAGE_BYTES;
+    for i in 0..PAGE_BYTES {
+        if which.has(i) {
+            bytes[(first + i) as usize] = from[i as usize];
         }
     }
 }

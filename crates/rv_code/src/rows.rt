@@ -1,5 +1,5 @@
 //! The table of instructions, each row once. What is made of the rows is up to the macro that
-//! `table!` is given: `encode`, `decode` and `asks` are made of them.
+//! `table!` is given: `encode`, `decode`, `asks` and `operands` are made of them.
 //!
 //! A row has an instruction's name, its funct3, its funct7 where it has one, and what it asks for,
 //! where `a` is the value of rs1, `b` that of rs2, the immediate or the amount, and `pc` the pc.

@@ -1,3 +1,8 @@
 pub mod EventCalls
+pub mod Footprint
 pub mod InPlace
+pub mod Replay
+pub mod RunThings
 pub mod Stepping
+pub mod ValidRecord
+pub mod private

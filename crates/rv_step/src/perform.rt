@@ -23,9 +23,9 @@ use ppr_regions::Event;
 use rv_code::{A0, Call, Effect, Stop, Trap, register};
 
 /// The registers of the second and third argument of a call.
-const A1: u8 = 11;
+pub(crate) const A1: u8 = 11;
 
-const A2: u8 = 12;
+pub(crate) const A2: u8 = 12;
 
 /// Does what an instruction asks for. Each size of a load or store has a path of its own, which
 /// doesn't test it again.
@@ -132,7 +132,7 @@ fn link(cpu: &mut Cpu, rd: u8, to: u32) -> Stepped
     Stepped::Plain
 }
 
-fn is_in_memory(at: u32) -> bool
+pub(crate) fn is_in_memory(at: u32) -> bool
     ensures { result ≡ is_in_memory_of at }
 {
     DATA_FROM <= at && at < STACK_TO

@@ -1,11 +1,9 @@
 -- The job of a text's program on an input.
-use Rattle.std.specs.Prelude.{◌≡◌, ◌≤◌, ◌<◌, ◌^◌, ℕ, List, All}
+use Rattle.std.specs.Prelude.{◌≡◌, ◌<◌, ◌^◌, ℕ, List, All}
 use Rattle.c_tree.specs.Item.{Item}
 use Rattle.low_stmt.specs.TextProgram.{program_of}
 use Rattle.low_link.specs.Front.{IsSource}
 use Rattle.rv_step.specs.declared.job.Job.{Job}
-use Rattle.rv_step.specs.declared.limits.TheConstants.{BUDGET_LIMIT}
-use Rattle.bop_top.specs.CommandWords.{Request, Seq, Check, Mean}
 
 pub record IsJobOf (text taken : List ℕ) (budget : ℕ) (job : Job) : Type 0 where
   pub ps : List Item
@@ -14,13 +12,3 @@ pub record IsJobOf (text taken : List ℕ) (budget : ℕ) (job : Job) : Type 0 w
   pub input : job.input ≡ taken
   pub small : All (λ b. b < 2 ^ 8) taken
   pub budget_is : job.budget ≡ budget
-
--- a budget is within its bounds
-pub record IsBounded (budget : ℕ) : Type 0 where
-  pub least : 1 ≤ budget
-  pub most : budget ≤ BUDGET_LIMIT
-
-abbrev pub HasBounds : Request → Type 0
-HasBounds (Seq name budget) = IsBounded budget
-HasBounds (Check name) = Unit {0}
-HasBounds (Mean name budget) = IsBounded budget

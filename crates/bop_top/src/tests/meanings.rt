@@ -2,7 +2,6 @@
 
 use super::{GREETING, call, call_with, source_with};
 use crate::Status;
-use crate::words::{Command, command_of};
 use bop_ends::MemSource;
 use c_tree::{Place, Undefined};
 use std::alloc::Global;
@@ -281,66 +280,6 @@ fn an_input_is_left_alone(rt: HostRuntime) -> Result<(), Fail> {
         let ended = call_with(alloc, words, text, input, &[], &[])?;
         assert_eq!(rt; ended.report.content(), *line, "row {row}");
         assert_eq!(rt; ended.input.left(), b"abcdef".as_slice(), "row {row}");
-    }
-    Ok(())
-}
-
-#[test]
-fn words_with_a_faulty_budget_are_bad(rt: HostRuntime) -> Result<(), Fail> {
-    let alloc = rt.alloc();
-    let rows: [&[&str]; 17] = [
-        &["mean"],
-        &["mean", ""],
-        &["mean", "-p.c"],
-        &["Mean", "p.c"],
-        &["mean", "p.c", "--budget"],
-        &["mean", "p.c", "--budget=5"],
-        &["mean", "p.c", "--steps", "5"],
-        &["mean", "--budget", "5", "p.c"],
-        &["mean", "p.c", "--budget", ""],
-        &["mean", "p.c", "--budget", "0"],
-        &["mean", "p.c", "--budget", "+5"],
-        &["mean", "p.c", "--budget", "5x"],
-        &["mean", "p.c", "--budget", "1000000000001"],
-        &["mean", "p.c", "--budget", "00000000000005"],
-        &["mean", "p.c", "--budget", "5", "--budget", "5"],
-        &["seq", "p.c", "--budget", "0"],
-        &["check", "p.c", "--budget", "5"],
-    ];
-    for (row, words) in rows.iter().enumerate() {
-        let ended = call(alloc, words, GREETING, &[], &[])?;
-        assert_eq!(rt; ended.status, Status::BadWords, "row {row}");
-        assert_eq!(rt; ended.report.content(), b"status bad-words\n".as_slice());
-    }
-    Ok(())
-}
-
-#[test]
-fn a_budget_is_read(rt: HostRuntime) -> Result<(), Fail> {
-    let alloc = rt.alloc();
-    let rows: [(&[&str], u64); 5] = [
-        (&[], 1_000_000_000),
-        (&["--budget", "1"], 1),
-        (&["--budget", "0000000000007"], 7),
-        (&["--budget", "999999999999"], 999_999_999_999),
-        (&["--budget", "1000000000000"], 1_000_000_000_000),
-    ];
-    for (options, wanted) in rows {
-        for command in ["seq", "mean"] {
-            let mut words = Vec::new(alloc);
-            words.push(String::from_str(alloc, command)?)?;
-            words.push(String::from_str(alloc, "p.c")?)?;
-            for option in options {
-                words.push(String::from_str(alloc, option)?)?;
-            }
-            let (name, budget) = match command_of(&words) {
-                Some(Command::Seq(name, budget)) if command == "seq" => (name, budget),
-                Some(Command::Mean(name, budget)) if command == "mean" => (name, budget),
-                _ => return Err(Fail::from("the words ask for a run or a meaning")),
-            };
-            assert_eq!(rt; name, "p.c");
-            assert_eq!(rt; budget, wanted);
-        }
     }
     Ok(())
 }

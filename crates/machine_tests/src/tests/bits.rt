@@ -1,6 +1,6 @@
 //! Bits and bytes of words.
 
-use bop_bits::{bytes_of, field, put, sext, word_of};
+use bop_bits::{PageSet, bytes_of, field, put, sext, word_of};
 
 #[test]
 fn fields_are_read_and_put(rt: HostRuntime) {
@@ -29,4 +29,31 @@ fn the_lowest_byte_is_first(rt: HostRuntime) {
     assert_eq!(rt; bytes_of(0x0050_0093), [0x93, 0x00, 0x50, 0x00]);
     assert_eq!(rt; word_of(&[0x93, 0x00, 0x50, 0x00]), 0x0050_0093);
     assert_eq!(rt; word_of(&bytes_of(u32::MAX)), u32::MAX);
+}
+
+#[test]
+fn sets_hold_what_is_added(rt: HostRuntime) {
+    let mut pages = PageSet::new();
+    let mut others = PageSet::new();
+    for page in [0, 63, 64, 767] {
+        pages.set(page);
+    }
+    others.set(65);
+    others.set(127);
+    let found: [bool; 6] = [
+        pages.has(0),
+        pages.has(63),
+        pages.has(64),
+        pages.has(767),
+        pages.has(1),
+        pages.has(65),
+    ];
+    assert_eq!(rt; found, [true, true, true, true, false, false]);
+    assert!(rt; !pages.meets(&others));
+    others.set(767);
+    assert!(rt; pages.meets(&others));
+    pages.difference_with(&others);
+    assert!(rt; pages.has(0) && !pages.has(767));
+    pages.union_with(&others);
+    assert!(rt; pages.has(127) && pages.has(767));
 }

@@ -1,4 +1,4 @@
-use Rattle.bop_top.specs.CommandWords.{Mean}
+use Rattle.bop_words.specs.WordRequests.{Mean}
 use Rattle.bop_top.proofs.Meanings.{put_done}
 use Rattle.bop_top.proofs.Refusals.{unready_done}
 use Rattle.bop_top.proofs.meaning.mean_text.Goals as goal
@@ -11,4 +11,4 @@ returns-in-Ok-clause-done g c =
 pub returns-in-Err-clause-done : goal.returns-in-Err-clause-done
 returns-in-Err-clause-done g c =
     let refused = c.in-Err.ensures.refused in
-    λ name. rw c.of.ensures (unready_done (Mean name c.args.steps) _ c.in-Err.outcome c.args.text.now refused.0 _ _ _ c.requires (λ x. x) refused.2 refused.1)
+    λ name. rw c.of.ensures (unready_done (Mean name c.args.steps) _ c.in-Err.outcome c.args.text.now refused.0 _ _ _ c.requires tt refused.2 refused.1)

@@ -1,7 +1,7 @@
 use Rattle.std.proofs.Common.{ℕ, List, [], ap, subst, sym}
 use Rattle.std.proofs.KnownBytes.{Appends-nil}
 use Rattle.low_link.proofs.SourceRuns.{simulated}
-use Rattle.bop_top.specs.CommandWords.{Seq}
+use Rattle.bop_words.specs.WordRequests.{Seq}
 use Rattle.bop_top.specs.private.RunEnds.{HasPassed}
 use Rattle.bop_top.proofs.Refusals.{unready_done}
 use Rattle.bop_top.proofs.TextRuns.{passed_done}
@@ -10,12 +10,12 @@ use Rattle.bop_top.proofs.sequential.seq_text.Goals as goal
 pub returns-in-Err-clause-done : goal.returns-in-Err-clause-done
 returns-in-Err-clause-done g c =
     let refused = c.in-Err.ensures.refused in
-    λ name. rw c.of.ensures (unready_done (Seq name c.args.budget) _ c.in-Err.outcome c.args.text.now refused.0 _ _ _ c.requires.text (λ x. x) refused.2 refused.1)
+    λ name. rw c.of.ensures (unready_done (Seq name c.args.budget) _ c.in-Err.outcome c.args.text.now refused.0 _ _ _ c.requires.text tt refused.2 refused.1)
 
 pub returns-in_default-clause-done : goal.returns-in_default-clause-done
 returns-in_default-clause-done g c =
     let job = c.in-Ok.ensures.job in
-    λ name. rw c.of-in_default.ensures (unready_done (Seq name c.args.budget) _ _ c.args.text.now job.0 _ _ _ c.requires.text (λ x. x) tt job.1)
+    λ name. rw c.of-in_default.ensures (unready_done (Seq name c.args.budget) _ _ c.args.text.now job.0 _ _ _ c.requires.text tt tt job.1)
 
 pub returns-clause-done : goal.returns-clause-done
 returns-clause-done g c =

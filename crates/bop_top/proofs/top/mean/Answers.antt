@@ -1,11 +1,11 @@
 use Rattle.std.proofs.Common.{sym, subst}
-use Rattle.bop_top.specs.CommandWords.{Mean}
+use Rattle.bop_words.specs.WordRequests.{Mean}
 use Rattle.bop_top.proofs.Loads.{unloaded, known_file}
 use Rattle.bop_top.proofs.top.mean.Goals as goal
 
 pub returns-in-Err-clause-done : goal.returns-in-Err-clause-done
 returns-in-Err-clause-done g c =
-    rw c.of.ensures (unloaded _ _ (Mean c.args.name.now c.args.steps) c.in-Err.outcome _ _ c.in-Err.ensures.refused)
+    rw c.of.ensures (unloaded _ _ (Mean c.args.name.now c.args.steps) c.in-Err.outcome _ _ tt c.in-Err.ensures.refused)
 
 pub returns-in-Ok-clause-done : goal.returns-in-Ok-clause-done
 returns-in-Ok-clause-done g c =

@@ -1,0 +1,5 @@
+pub mod Changed
+pub mod Held
+pub mod MaskedPages
+pub mod Noted
+pub mod Things

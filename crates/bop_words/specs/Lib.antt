@@ -1,0 +1,5 @@
+pub mod CommandTable
+pub mod OptionTable
+pub mod RequestBounds
+pub mod WordRequests
+pub mod private

@@ -1,0 +1,2 @@
+pub mod FirstDifferenceLemmas
+pub mod FirstOfLemmas
