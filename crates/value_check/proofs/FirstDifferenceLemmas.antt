@@ -8,12 +8,12 @@ use Rattle.bop_bits.specs.declared.map.TheConstants.{DATA_FROM, PAGE_BYTES}
 use Rattle.value_check.specs.declared.difference.Difference.{Difference}
 use Rattle.value_check.specs.FirstDifference.{address_of, difference_at, first_difference}
 use Rattle.value_check.specs.FirstOf.{first_of}
-use Rattle.value_check.proofs.FirstOfLemmas.{none-next, some-first}
+use Rattle.value_check.proofs.FirstOfLemmas.{none-next, some-first, first_of-same}
 
 -- the byte at a place of a page
-pub byte-of-page : (memory : List ℕ) (page place : ℕ) → place < PAGE_BYTES
+pub byte_of_page : (memory : List ℕ) (page place : ℕ) → place < PAGE_BYTES
     → slice_index (page_at memory page) place ≡ byte_at memory (address_of page place)
-byte-of-page memory page place h =
+byte_of_page memory page place h =
     let at : DATA_FROM + PAGE_BYTES * page + place - DATA_FROM ≡ PAGE_BYTES * page + place = omega arith in
     get_or-take PAGE_BYTES (drop (PAGE_BYTES * page) memory) place 0 h
     ∙ get_or-drop (PAGE_BYTES * page) memory place 0 ∙ ap (slice_index memory) (sym at)
@@ -36,10 +36,10 @@ module _ (now seen : List ℕ) (page : ℕ) (which : ℕ → Bool) where
 
   module _ (ours theirs : List ℕ) (place : ℕ) (e : ours ≡ page_at now page) (g : theirs ≡ page_at seen page) (h : place < PAGE_BYTES) where
     our-byte : byte_at now (address_of page place) ≡ slice_index ours place
-    our-byte = sym (ap (λ xs. slice_index xs place) e ∙ byte-of-page now page place h)
+    our-byte = sym (ap (λ xs. slice_index xs place) e ∙ byte_of_page now page place h)
 
     their-byte : byte_at seen (address_of page place) ≡ slice_index theirs place
-    their-byte = sym (ap (λ xs. slice_index xs place) g ∙ byte-of-page seen page place h)
+    their-byte = sym (ap (λ xs. slice_index xs place) g ∙ byte_of_page seen page place h)
 
     asked-is : asked place
         ≡ answer place (which place) (slice_index ours place == slice_index theirs place) (slice_index theirs place) (slice_index ours place)
@@ -69,3 +69,11 @@ module _ (now seen : List ℕ) (page : ℕ) (which : ℕ → Bool) where
         (asked-is
         ∙ ap (λ b. answer place b (slice_index ours place == slice_index theirs place) (slice_index theirs place) (slice_index ours place)) in_
         ∙ ap (λ b. answer place true b (slice_index theirs place) (slice_index ours place)) (ne_eqb _ _ differ)))
+
+-- a set with all places of a page
+pub first_difference-whole : (now seen : List ℕ) (page : ℕ) (which : ℕ → Bool)
+    → ((place : ℕ) → place < PAGE_BYTES → which place ≡ true)
+    → first_difference now seen page which ≡ first_difference now seen page (λ place. true)
+first_difference-whole now seen page which all =
+    first_of-same (asked now seen page which) (asked now seen page (λ place. true)) PAGE_BYTES
+    (λ place h. ap (λ b. if b then difference_at now seen (address_of page place) else None) (all place h))

@@ -37,3 +37,19 @@ module _ {A : Type 0} (f : ℕ → Option A) where
   some-first n below a h e g =
       let split : below - suc n + suc n ≡ below = omega (arith, h) in
       ap (first_of f) (sym split) ∙ some-stays (suc n) (below - suc n) a (some-next n a e g)
+
+  -- without an answer to any question there is none
+  pub none-of : (n : ℕ) → ((i : ℕ) → i < n → f i ≡ None) → first_of f n ≡ None
+  none-of zero each = first_of-zero
+  none-of (suc n) each =
+      first_of-suc n ∙ ap (λ a. or_else a (f n)) (none-of n (λ i h. each i (omega (arith, h))))
+      ∙ each n (omega arith)
+
+-- the same answers have the same first
+pub first_of-same : {A : Type 0} (f g : ℕ → Option A) (n : ℕ) → ((i : ℕ) → i < n → f i ≡ g i)
+    → first_of f n ≡ first_of g n
+first_of-same f g zero each = first_of-zero f ∙ sym (first_of-zero g)
+first_of-same f g (suc n) each =
+    first_of-suc f n
+    ∙ ap (λ a. or_else a (f n)) (first_of-same f g n (λ i h. each i (omega (arith, h))))
+    ∙ ap (or_else (first_of g n)) (each n (omega arith)) ∙ sym (first_of-suc g n)
